@@ -10,8 +10,8 @@ use Rattle.plcells.specs.Equations.{IsEquation, left_of, right_of}
 use Rattle.plprogram.specs.declared.settings.Settings.{Settings}
 use Rattle.plbuiltin.specs.Solution.{Solved, Raises, Gives, fails, unifies, writes, sets, decides, against}
 use Rattle.plbuiltin.specs.Terms.{is_none}
-use Rattle.plgenerator.specs.Answers.{left, IsTurn}
-use Rattle.plgenerator.specs.declared.turn.Turn.{Turn}
+use Rattle.plgenerator.specs.Answers.{left, IsRemaining}
+use Rattle.plgenerator.specs.declared.turn.Remaining.{Remaining}
 use Rattle.planswers.specs.declared.answer.Answer.{Answer}
 use Rattle.planswers.specs.declared.answer.Answer.TheVariants as answers
 
@@ -21,10 +21,10 @@ IsMany (x ∷ []) = ⊥
 IsMany xs = Unit {0}
 
 -- a turn of some values, with several answers
-pub record AreSeveral (h : Store) (vs : List Cell) (turn : Turn) : Type 0 where
+pub record AreSeveral (h : Store) (vs : List Cell) (turn : Remaining) : Type 0 where
   pub values : AreValues h vs
   pub few : length vs < 2 ^ 32
-  pub is_turn : IsTurn h vs turn
+  pub is_turn : IsRemaining h vs turn
   pub many : IsMany (left h vs turn)
 
 -- some values, and several terms without variables

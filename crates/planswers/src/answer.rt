@@ -2,7 +2,7 @@
 
 use plcells::cell::Cell;
 use plcells::equation::Equation;
-use plgenerator::turn::Turn;
+use plgenerator::turn::Remaining;
 use plprogram::settings::Settings;
 use plterm::term::Term;
 
@@ -24,7 +24,7 @@ pub enum Answer {
     /// It is true where the two terms of an equation are unified.
     Solves(Equation),
     /// Its answers are those of a turn over the values of the arguments: there are none, or at least two.
-    Several(Vec<Cell>, Turn),
+    Several(Vec<Cell>, Remaining),
     /// It is true where the terms of some values are unified, together, with one of some terms after another. These have no variables, and there is not just one.
     Groups(Vec<Cell>, Vec<Term>),
     /// It is true once these bytes are written.

@@ -15,7 +15,7 @@ use Rattle.plcells.proofs.Terms.{term-at}
 use Rattle.plbind.specs.declared.unify.Kind.{Kind}
 use Rattle.plbind.specs.declared.unify.Kind.TheVariants.{Variables, Binding, Blocks, Integers, Same as SameKind, Clash as ClashKind}
 use Rattle.plbind.specs.declared.unify.Verdict.{Verdict}
-use Rattle.plbind.specs.Unifying.{HasNear, HasArgs, Says, kind_of, same_kind}
+use Rattle.plbind.specs.Unifying.{HasNear, HasArgs, IsVerdict, kind_of, same_kind}
 
 -- how many terms there are
 count : Trees → ℕ
@@ -233,8 +233,8 @@ near-younger h x y m n ey fx tx ty lt =
     let near = near-older h y x n m ey fx ty tx lt in
     record { number = near.number; near = near.near; to = λ τ e. near.to τ (sym e); back = λ τ e. sym (near.back τ e) }
 
-pub says-along : (h : Store) (s t s1 t1 : Tree) (r : Verdict) → s ≡ s1 → t ≡ t1 → Says h s t r → Says h s1 t1 r
-says-along h s t s1 t1 r es et says = subst (λ u. Says h u t1 r) es (subst (λ u. Says h s u r) et says)
+pub says-along : (h : Store) (s t s1 t1 : Tree) (r : Verdict) → s ≡ s1 → t ≡ t1 → IsVerdict h s t r → IsVerdict h s1 t1 r
+says-along h s t s1 t1 r es et says = subst (λ u. IsVerdict h u t1 r) es (subst (λ u. IsVerdict h s u r) et says)
 
 -- two integers
 pub integers-same : (s t : Tree) (i j : ℤ) → s ≡ int i → t ≡ int j → i ≡ j → (τ : ℕ → Tree) → bind τ s ≡ bind τ t

@@ -91,11 +91,11 @@ pub record HasNear (h : Store) (s t : Tree) (x : ℕ) (v : Cell) : Type 0 where
   pub back : (τ : ℕ → Tree) → τ number ≡ bind τ (value h v) → bind τ s ≡ bind τ t
 
 -- what a verdict says of two terms
-unfoldable pub Says : Store → Tree → Tree → Verdict → Type 0
-Says h s t Same = (τ : ℕ → Tree) → bind τ s ≡ bind τ t
-Says h s t Clash = (τ : ℕ → Tree) → bind τ s ≡ bind τ t → ⊥
-Says h s t (Binds x v) = HasNear h s t x v
-Says h s t (Args p q k) = HasArgs h s t p q k
+unfoldable pub IsVerdict : Store → Tree → Tree → Verdict → Type 0
+IsVerdict h s t Same = (τ : ℕ → Tree) → bind τ s ≡ bind τ t
+IsVerdict h s t Clash = (τ : ℕ → Tree) → bind τ s ≡ bind τ t → ⊥
+IsVerdict h s t (Binds x v) = HasNear h s t x v
+IsVerdict h s t (Args p q k) = HasArgs h s t p q k
 
 -- a variable that has to stand for a value, and the pairs that are left
 pub record HasLeft (h : Store) (old new : List (ℕ × ℕ)) (x : ℕ) (v : Cell) : Type 0 where

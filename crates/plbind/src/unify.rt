@@ -3,7 +3,7 @@
 ghost use Rattle.std.specs.Prelude.{◌≡◌, ◌↔◌, IsTrue, ℕ, ◌+◌, ◌^◌, ◌<◌, ◌≤◌, length, IfOk, OnOk, OnErr, ◌++◌, None, true, false};
 ghost use Rattle.plterm.specs.Tree.{Tree};
 ghost use Rattle.plsubst.specs.Unify.{unify as unify_terms};
-ghost use Rattle.plbind.specs.Unifying.{kind_of, pairs, IsInside, Leaves, Says, Stands, Answers, Bindings, Unified, IsNear, HoldsNothing, KeepsAll};
+ghost use Rattle.plbind.specs.Unifying.{kind_of, pairs, IsInside, Leaves, IsVerdict, Stands, Answers, Bindings, Unified, IsNear, HoldsNothing, KeepsAll};
 ghost use Rattle.plcells.specs.declared.cell.Cell.TheVariants.{Ref as RefCell, Str as StrCell, Atom as AtomCell};
 ghost use Rattle.plcells.specs.Store.{term, value, IsValue, IsEnd, IsInteger};
 
@@ -125,7 +125,7 @@ fn judge_variables(heap: &Heap, x: CellId, y: CellId) -> Verdict
     requires left { IsEnd heap.now (RefCell x) }
     requires right { IsEnd heap.now (RefCell y) }
     requires fits { IsValue heap.now (RefCell x) × IsValue heap.now (RefCell y) }
-    ensures { Says heap.now (term heap.now x) (term heap.now y) result }
+    ensures { IsVerdict heap.now (term heap.now x) (term heap.now y) result }
 {
     if x == y {
         return Verdict::Same;
@@ -142,7 +142,7 @@ fn judge_variables(heap: &Heap, x: CellId, y: CellId) -> Verdict
 fn judge_blocks(heap: &Heap, p: CellId, q: CellId) -> Verdict
     requires left { IsValue heap.now (StrCell p) }
     requires right { IsValue heap.now (StrCell q) }
-    ensures { Says heap.now (term heap.now p) (term heap.now q) result }
+    ensures { IsVerdict heap.now (term heap.now p) (term heap.now q) result }
 {
     if p == q {
         return Verdict::Same;
@@ -168,7 +168,7 @@ fn same_integers(i: i64, j: i64) -> bool
 fn compare(heap: &Heap, a: Cell, b: Cell) -> Verdict
     requires left { IsValue heap.now a }
     requires right { IsValue heap.now b }
-    ensures { Says heap.now (value heap.now a) (value heap.now b) result }
+    ensures { IsVerdict heap.now (value heap.now a) (value heap.now b) result }
 {
     let v = heap.root(a);
     let w = heap.root(b);

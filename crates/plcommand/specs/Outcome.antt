@@ -72,7 +72,7 @@ pub record HasRun (words : List (List ℕ)) (before now : Option (List ℕ)) (h 
   pub run : IsRunOf (with_goal whole goal) steps h
 
 -- An answer says what a form makes of a text; its output may be missing for want of memory.
-pub record Says (text : List ℕ) (form : Form Tree) (a : Answer) : Type 0 where
+pub record IsOutcome (text : List ℕ) (form : Form Tree) (a : Answer) : Type 0 where
   pub output : List ℕ
   pub makes : Makes text form a.history output a.status
   pub is : IfOk a.output (λ o. o.items ≡ output)

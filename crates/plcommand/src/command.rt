@@ -13,7 +13,7 @@ ghost use Rattle.plwords.specs.declared.form.Form.{Form};
 ghost use Rattle.plwords.specs.declared.form.Form.TheVariants as forms;
 ghost use Rattle.plwords.specs.Forms.{texts};
 ghost use Rattle.plcommand.specs.Words.{IsCommand, IsOf, Means};
-ghost use Rattle.plcommand.specs.Outcome.{text_limit, Gave, HasRun, Comes, Says, Wrote, IsAnswer, IsAnswerOrMemory, IsUnread, IsShort, IsFormCause, IsWordsCause, IsReadCause, check_text};
+ghost use Rattle.plcommand.specs.Outcome.{text_limit, Gave, HasRun, Comes, IsOutcome, Wrote, IsAnswer, IsAnswerOrMemory, IsUnread, IsShort, IsFormCause, IsWordsCause, IsReadCause, check_text};
 
 use itoa::Buffer;
 use plhist::{History, Status, refusal_text, report_text, status_of};
@@ -144,7 +144,7 @@ fn run_answer(
     steps: u64,
     goal: Option<Term>,
 ) -> Result<Answer, LoadError>
-    ensures says { IfOk result (Says text.now (forms.Run steps goal)) }
+    ensures says { IfOk result (IsOutcome text.now (forms.Run steps goal)) }
     ensures refused { IfErr result (Tells text.now) }
 {
     let loaded = load(alloc, text)?;
@@ -156,7 +156,7 @@ fn run_answer(
 
 /// How many clauses and directives a program has.
 fn check_answer(alloc: Global, text: &[u8]) -> Result<Answer, LoadError>
-    ensures says { IfOk result (Says text.now forms.Check) }
+    ensures says { IfOk result (IsOutcome text.now forms.Check) }
     ensures refused { IfErr result (Tells text.now) }
 {
     let program = load(alloc, text)?;
@@ -182,7 +182,7 @@ fn counts_of(alloc: Global, program: &Program) -> Result<Vec<u8>, AllocError>
 
 /// The listing of a program.
 fn list_answer(alloc: Global, text: &[u8]) -> Result<Answer, LoadError>
-    ensures says { IfOk result (Says text.now forms.List) }
+    ensures says { IfOk result (IsOutcome text.now forms.List) }
     ensures refused { IfErr result (Tells text.now) }
 {
     let lines = listing(alloc, text)?;
@@ -195,7 +195,7 @@ fn list_answer(alloc: Global, text: &[u8]) -> Result<Answer, LoadError>
 
 /// The line that tells where a text is refused, and why.
 fn refusal_answer(alloc: Global, line: u64, column: u64, kind: RefusalKind) -> Answer
-    ensures { (text : List ℕ) (form : Form Tree) → Loads text (Refuses line column kind) → Says text form result }
+    ensures { (text : List ℕ) (form : Form Tree) → Loads text (Refuses line column kind) → IsOutcome text form result }
 {
     Answer {
         output: refusal_text(alloc, line, column, kind),
@@ -206,7 +206,7 @@ fn refusal_answer(alloc: Global, line: u64, column: u64, kind: RefusalKind) -> A
 
 /// What a form makes of a text that loads; else why it does not load.
 fn loaded_answer(alloc: Global, form: Form<Term>, text: &[u8]) -> Result<Answer, LoadError>
-    ensures says { IfOk result (Says text.now form) }
+    ensures says { IfOk result (IsOutcome text.now form) }
     ensures refused { IfErr result (Tells text.now) }
 {
     match form {
@@ -218,7 +218,7 @@ fn loaded_answer(alloc: Global, form: Form<Term>, text: &[u8]) -> Result<Answer,
 
 /// What a form makes of a text.
 fn answer_of(alloc: Global, form: Form<Term>, text: &[u8]) -> Result<Answer, AllocError>
-    ensures { IfOk result (Says text.now form) }
+    ensures { IfOk result (IsOutcome text.now form) }
 {
     match loaded_answer(alloc, form, text) {
         Ok(answer) => Ok(answer),
@@ -244,7 +244,7 @@ fn write_output<K: Sink>(out: &mut K, output: &Result<Vec<u8>, AllocError>, whol
 
 /// The form and the text that it is asked for; or the status of what was in the way.
 fn answer_for<S: Source>(alloc: Global, form: Form<Term>, source: &mut S) -> Result<Answer, Status>
-    ensures answer { IfOk result (λ a. (text : List ℕ) × Gave (S.left source.old) (S.left source.new) text × Says text form a) }
+    ensures answer { IfOk result (λ a. (text : List ℕ) × Gave (S.left source.old) (S.left source.new) text × IsOutcome text form a) }
     ensures short { IfOk result (λ _. TookAtMost (S.left source.old) (S.left source.new) text_limit) }
     ensures cause { IfErr result (IsReadCause (S.left source.old) (S.left source.new) (S.faults source.old) (S.faults source.new)) }
 {

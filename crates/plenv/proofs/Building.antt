@@ -21,7 +21,7 @@ use Rattle.plcode.specs.Laying.{IsLaid}
 use Rattle.plcode.specs.Packed.{node_at, IsArgument, IsBlockAt}
 use Rattle.plenv.specs.declared.slot.Slot.{Slot}
 use Rattle.plenv.specs.declared.slot.Slot.TheVariants.{Free, Set}
-use Rattle.plenv.specs.declared.block.Run.{Run}
+use Rattle.plenv.specs.declared.block.BlocksAt.{BlocksAt}
 use Rattle.plenv.specs.declared.block.Gathered.{Gathered}
 use Rattle.plenv.specs.Env.{Env, slot_at, variable, AreSlots}
 use Rattle.plenv.specs.Blocks.{cell_of, AreParts, AddsNoCell, AreBuilt, block_at, Stand, Hold, HasFree, IsGathered, PutsBlock}
@@ -37,7 +37,7 @@ use Rattle.plenv.proofs.Parts.{row-node, row-length, stand-parts, parts-length, 
 each-below : (width : ℕ) (s : List ℕ) (us : List Tree) → AllBelow width (compound s (trees us)) → EachBelow width (trees us)
 each-below width s us b = b
 
-module _ (e : Env) (h new : Store) (adds : AddsNoCell e.heap h) (is : AreSlots e) (nodes : List Node) (laid : IsLaid e.heap.names nodes) (r : Run) (place f k : ℕ) (b : IsBlockAt nodes r.from place f k) (built : AreBuilt e.heap nodes r place)
+module _ (e : Env) (h new : Store) (adds : AddsNoCell e.heap h) (is : AreSlots e) (nodes : List Node) (laid : IsLaid e.heap.names nodes) (r : BlocksAt) (place f k : ℕ) (b : IsBlockAt nodes r.from place f k) (built : AreBuilt e.heap nodes r place)
     (xs : List Argument) (parts : AreParts h e.slots r (take k (drop (suc place) nodes)) xs) (p : ℕ) (block_added : AddsBlock h new p (functor_name h.names f) (map (stands_for h) xs) (numbers_of xs)) where
   abbrev row : List Node
   row = take k (drop (suc place) nodes)
@@ -218,7 +218,7 @@ module _ (h new : Store) (p : ℕ) (name : List ℕ) (xs : List Argument) (made 
   one-is = ap (term new) cell ∙ there.1 ∙ get-map (stands_for h) xs at (ValueArgument (IntCell (pos 0))) (var 0) lt ∙ ap (stands_for h) is
 
 -- what was gathered of the block's row
-pub gathered-here : (h : Store) (slots ys : List Slot) (r : Run) (nodes : List Node) (place k : ℕ) (xs : List Argument) (g o : Gathered) → ys ≡ slots → g ≡ o
+pub gathered-here : (h : Store) (slots ys : List Slot) (r : BlocksAt) (nodes : List Node) (place k : ℕ) (xs : List Argument) (g o : Gathered) → ys ≡ slots → g ≡ o
     → IsGathered h ys r (take (place + 1 + k - (place + 1)) (drop (place + 1) nodes)) xs g → IsGathered h slots r (take k (drop (suc place) nodes)) xs o
 gathered-here h slots ys r nodes place k xs g o same is got =
     subst (IsGathered h slots r (take k (drop (suc place) nodes)) xs) is

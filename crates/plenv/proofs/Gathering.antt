@@ -14,7 +14,7 @@ use Rattle.plcode.specs.declared.node.Node.TheVariants.{Var, Int, Atom, Fun, Sub
 use Rattle.plcode.specs.Packed.{node_at}
 use Rattle.plenv.specs.declared.slot.Slot.{Slot}
 use Rattle.plenv.specs.declared.slot.Slot.TheVariants.{Free, Set}
-use Rattle.plenv.specs.declared.block.Run.{Run}
+use Rattle.plenv.specs.declared.block.BlocksAt.{BlocksAt}
 use Rattle.plenv.specs.Env.{slot_at}
 use Rattle.plenv.specs.Blocks.{cell_of, part_of, part_at, IsPart, AreParts, IsReady, AreReady, AddsNoCell, HasFree, HasOne}
 
@@ -34,7 +34,7 @@ no-cell-trans a b c p q = record {
   fresh = λ m f. q.fresh m (p.fresh m f);
 }
 
-module _ (old new : Store) (adds : AddsNoCell old new) (slots : List Slot) (r : Run) where
+module _ (old new : Store) (adds : AddsNoCell old new) (slots : List Slot) (r : BlocksAt) where
   part-still : (n : Node) (x : Argument) → IsPart old slots r n x → IsPart new slots r n x
   part-still (Var s) x p = p
   part-still (Int i) x p = let v = adds.grows.values p.0 p.2 in (p.0, p.1, v.0, v.1 ∙ p.3)
@@ -55,23 +55,23 @@ module _ (old new : Store) (adds : AddsNoCell old new) (slots : List Slot) (r : 
   ready-still (Fun g k) f = f
   ready-still (Sub first root) f = (f.0, f.1, (adds.grows.values (Str (cell_of r root)) f.2).0)
 
-pub ready-all : (old new : Store) → AddsNoCell old new → (r : Run) (ns : List Node) → AreReady old r ns → AreReady new r ns
+pub ready-all : (old new : Store) → AddsNoCell old new → (r : BlocksAt) (ns : List Node) → AreReady old r ns → AreReady new r ns
 ready-all old new adds r [] f = tt
 ready-all old new adds r (n ∷ ns) f = (ready-still old new adds [] r n f.0, ready-all old new adds r ns f.1)
 
-pub ready-at : (h : Store) (r : Run) (ns : List Node) (i : ℕ) (d : Node) → AreReady h r ns → i < length ns → IsReady h r (get_or ns i d)
+pub ready-at : (h : Store) (r : BlocksAt) (ns : List Node) (i : ℕ) (d : Node) → AreReady h r ns → i < length ns → IsReady h r (get_or ns i d)
 ready-at h r [] i d are lt = absurd (omega arith)
 ready-at h r (n ∷ ns) zero d are lt = are.0
 ready-at h r (n ∷ ns) (suc i) d are lt = ready-at h r ns i d are.1 (omega arith)
 
-pub parts-push : (h : Store) (slots : List Slot) (r : Run) (ns : List Node) (xs : List Argument) (n : Node) (x : Argument) → AreParts h slots r ns xs → IsPart h slots r n x → AreParts h slots r (ns ++ n ∷ []) (xs ++ x ∷ [])
+pub parts-push : (h : Store) (slots : List Slot) (r : BlocksAt) (ns : List Node) (xs : List Argument) (n : Node) (x : Argument) → AreParts h slots r ns xs → IsPart h slots r n x → AreParts h slots r (ns ++ n ∷ []) (xs ++ x ∷ [])
 parts-push h slots r [] [] n x p q = (q, tt)
 parts-push h slots r [] (y ∷ ys) n x p q = absurd p
 parts-push h slots r (m ∷ ns) [] n x p q = absurd p
 parts-push h slots r (m ∷ ns) (y ∷ ys) n x p q = (p.0, parts-push h slots r ns ys n x p.1 q)
 
 -- the next node
-pub parts-next : (old new : Store) (slots : List Slot) (r : Run) (row : List Node) (i : ℕ) (xs : List Argument) (n : Node) (x : Argument)
+pub parts-next : (old new : Store) (slots : List Slot) (r : BlocksAt) (row : List Node) (i : ℕ) (xs : List Argument) (n : Node) (x : Argument)
     → i < length row → n ≡ get_or row i n → AddsNoCell old new → AreParts old slots r (take i row) xs → IsPart new slots r n x → AreParts new slots r (take (i + 1) row) (xs ++ x ∷ [])
 parts-next old new slots r row i xs n x lt is adds are part =
     subst (λ ns. AreParts new slots r ns (xs ++ x ∷ [])) (ap (λ m. take i row ++ m ∷ []) is ∙ sym (take_more row i n lt))
@@ -88,7 +88,7 @@ free-slot slots i n e = elim (cases_lt i (length slots)) [
   | inr le ↦ absurd (let none = get_or_past slots i (Set (IntCell (pos 0))) le in let no : Value (IntCell (pos 0)) ≡ Variable n = sym (ap part_of none) ∙ e in (cc))
 ]
 
-pub has-free : (h : Store) (slots : List Slot) (r : Run) (row : List Node) (i : ℕ) (n : Node) (k : ℕ) → i < length row → node_at row i ≡ n → IsPart h slots r n (Variable k) → HasFree slots r.base row 0 (length row)
+pub has-free : (h : Store) (slots : List Slot) (r : BlocksAt) (row : List Node) (i : ℕ) (n : Node) (k : ℕ) → i < length row → node_at row i ≡ n → IsPart h slots r n (Variable k) → HasFree slots r.base row 0 (length row)
 has-free h slots r row i (Var s) k lt is p = let f = free-slot slots (r.base + s) k (sym p) in record { place = i; variable = s; number = k; behind = omega arith; before = lt; is = is; within = f.0; free = f.1 }
 has-free h slots r row i (Int j) k lt is p = let no : Variable k ≡ Value p.0 = p.1 in (cc)
 has-free h slots r row i (Atom a) k lt is p = (cc)
@@ -125,14 +125,14 @@ one-first xs x o i n none is len h =
     )
 
 -- the argument of a node
-pub part-of-node : (h : Store) (slots : List Slot) (r : Run) (ns : List Node) (xs : List Argument) (i : ℕ) (d : Argument) → AreParts h slots r ns xs → i < length xs → IsPart h slots r (node_at ns i) (get_or xs i d)
+pub part-of-node : (h : Store) (slots : List Slot) (r : BlocksAt) (ns : List Node) (xs : List Argument) (i : ℕ) (d : Argument) → AreParts h slots r ns xs → i < length xs → IsPart h slots r (node_at ns i) (get_or xs i d)
 part-of-node h slots r [] [] i d p lt = absurd (omega arith)
 part-of-node h slots r [] (x ∷ xs) i d p lt = absurd p
 part-of-node h slots r (n ∷ ns) [] i d p lt = absurd p
 part-of-node h slots r (n ∷ ns) (x ∷ xs) zero d p lt = p.0
 part-of-node h slots r (n ∷ ns) (x ∷ xs) (suc i) d p lt = part-of-node h slots r ns xs i d p.1 (omega arith)
 
-pub variable-node : (h : Store) (slots : List Slot) (r : Run) (n : Node) (k : ℕ) → IsPart h slots r n (Variable k) → (s : ℕ) × (n ≡ Var s)
+pub variable-node : (h : Store) (slots : List Slot) (r : BlocksAt) (n : Node) (k : ℕ) → IsPart h slots r n (Variable k) → (s : ℕ) × (n ≡ Var s)
 variable-node h slots r (Var s) k p = (s, refl)
 variable-node h slots r (Int j) k p = let no : Variable k ≡ Value p.0 = p.1 in (cc)
 variable-node h slots r (Atom a) k p = (cc)

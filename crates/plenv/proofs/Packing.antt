@@ -12,7 +12,7 @@ use Rattle.plcode.specs.declared.node.Node.TheVariants.{Fun, Var}
 use Rattle.plcode.specs.Packed.{node_at, IsBlockAt, Packed, last, next}
 use Rattle.plenv.specs.declared.slot.Slot.{Slot}
 use Rattle.plenv.specs.declared.slot.Slot.TheVariants.{Free}
-use Rattle.plenv.specs.declared.block.Run.{Run}
+use Rattle.plenv.specs.declared.block.BlocksAt.{BlocksAt}
 use Rattle.plenv.specs.Env.{Env, slot_at, over, Covers}
 use Rattle.plenv.specs.Changes.{Puts, Stays, NoneFreed}
 use Rattle.plenv.specs.Blocks.{cell_of, AreBuilt, block_at, Stand, Hold, HasFree, PutsBlock}
@@ -57,7 +57,7 @@ block-most nodes from root place f k g m packed b is = elim (cases_eq place root
 pub hold-own : (e : Env) (base width : ℕ) → base + width ≤ length e.slots → Hold e base (over e base) width
 hold-own e base width le = λ s lt. (omega (arith, le, lt), refl)
 
-module _ (old mid new : Env) (nodes : List Node) (r : Run) (root : ℕ) (start : AreBuilt old.heap nodes r r.from) (covers : Covers old r.base (block_at old.heap.names nodes root)) (before : Stays old mid) (mid_names : mid.heap.names ≡ old.heap.names)
+module _ (old mid new : Env) (nodes : List Node) (r : BlocksAt) (root : ℕ) (start : AreBuilt old.heap nodes r r.from) (covers : Covers old r.base (block_at old.heap.names nodes root)) (before : Stays old mid) (mid_names : mid.heap.names ≡ old.heap.names)
     (stand : (σ : ℕ → Tree) (width : ℕ) → Hold old r.base σ width → Stand mid.heap σ width nodes r root) (k : ℕ) (put_block : PutsBlock mid new nodes r root k) (stays : Stays mid new) (names : new.heap.names ≡ mid.heap.names) (le : r.from ≤ root) where
   hold_mid : (σ : ℕ → Tree) (width : ℕ) → Hold old r.base σ width → Hold mid r.base σ width
   hold_mid σ width hold = λ s lt. let h = hold s lt in (omega (arith, h.0, before.slots), before.extends.variables (r.base + s) h.0 ∙ h.1)
@@ -93,10 +93,10 @@ pub packed-root : (nodes : List Node) (from root place : ℕ) → Packed nodes f
 packed-root nodes from root place (last f k b) = (f, (k, b))
 packed-root nodes from root place (next p f k b more) = packed-root nodes from root (suc (p + k)) more
 
-pub built-start : (h : Store) (nodes : List Node) (r : Run) → length h.cells ≡ r.start → AreBuilt h nodes r r.from
+pub built-start : (h : Store) (nodes : List Node) (r : BlocksAt) → length h.cells ≡ r.start → AreBuilt h nodes r r.from
 built-start h nodes r all = record { from = omega arith; length = omega (arith, all); heads = λ p f k le lt at. absurd (omega (arith, le, lt)) }
 
-pub stand-none : (h : Store) (σ : ℕ → Tree) (width : ℕ) (nodes : List Node) (r : Run) → Stand h σ width nodes r r.from
+pub stand-none : (h : Store) (σ : ℕ → Tree) (width : ℕ) (nodes : List Node) (r : BlocksAt) → Stand h σ width nodes r r.from
 stand-none h σ width nodes r p f k le lt at below = absurd (omega (arith, le, lt))
 
 -- one node more

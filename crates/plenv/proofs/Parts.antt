@@ -18,7 +18,7 @@ use Rattle.plcode.specs.Laying.{IsLaid}
 use Rattle.plcode.specs.Packed.{node_at, IsArgument}
 use Rattle.plenv.specs.declared.slot.Slot.{Slot}
 use Rattle.plenv.specs.declared.slot.Slot.TheVariants.{Free, Set}
-use Rattle.plenv.specs.declared.block.Run.{Run}
+use Rattle.plenv.specs.declared.block.BlocksAt.{BlocksAt}
 use Rattle.plenv.specs.Env.{Env, slot_at, slot_term, IsSlot, AreSlots}
 use Rattle.plenv.specs.Blocks.{cell_of, part_of, part_at, IsPart, AreParts, IsReady, AreReady, AddsNoCell, AreBuilt, Hold}
 use Rattle.plenv.proofs.Nodes.{named-at, rests-at, head-at}
@@ -35,12 +35,12 @@ row-node ns at k j lt = get_or-take k (drop at ns) j (Var 0) lt ∙ at-drop at n
 pub row-length : (ns : List Node) (at k : ℕ) → at + k ≤ length ns → length (take k (drop at ns)) ≡ k
 row-length ns at k le = omega (arith, length-take k (drop at ns), length-drop at ns, le)
 
-ready-each : (h : Store) (r : Run) (row : List Node) → ((j : ℕ) → j < length row → IsReady h r (node_at row j)) → AreReady h r row
+ready-each : (h : Store) (r : BlocksAt) (row : List Node) → ((j : ℕ) → j < length row → IsReady h r (node_at row j)) → AreReady h r row
 ready-each h r [] each = tt
 ready-each h r (n ∷ ns) each = (each 0 (omega arith), ready-each h r ns (λ j lt. each (suc j) (omega arith)))
 
 -- ---- a block's arguments are there
-module _ (h : Store) (t : Table) (same : h.names ≡ t) (few : length h.cells < 2 ^ 32) (nodes : List Node) (laid : IsLaid t nodes) (r : Run) (place : ℕ) (built : AreBuilt h nodes r place) (room : place ≤ length nodes) where
+module _ (h : Store) (t : Table) (same : h.names ≡ t) (few : length h.cells < 2 ^ 32) (nodes : List Node) (laid : IsLaid t nodes) (r : BlocksAt) (place : ℕ) (built : AreBuilt h nodes r place) (room : place ≤ length nodes) where
   -- the head of the block on which a compound rests
   rooted : (first root : ℕ) → Rests (values t nodes) (Sub first root) → root < place → (f k : ℕ) × (node_at nodes root ≡ Fun f k)
   rooted first root rests lt = head-at t nodes root laid.sound.rest (omega (arith, lt, room)) rests
@@ -63,7 +63,7 @@ module _ (h : Store) (t : Table) (same : h.names ≡ t) (few : length h.cells < 
       (ready_one (node_at nodes (at + j)) (each (at + j) (omega arith) (omega (arith, few_j))) (named-at t nodes (at + j) laid.sound.named within) (rests-at t nodes (at + j) laid.sound.rest within)))
 
 -- ---- what they stand for
-module _ (e : Env) (h : Store) (adds : AddsNoCell e.heap h) (is : AreSlots e) (r : Run) where
+module _ (e : Env) (h : Store) (adds : AddsNoCell e.heap h) (is : AreSlots e) (r : BlocksAt) where
   IsGood : Argument → Type 0
   IsGood x = ArePartsOfHeap h (x ∷ [])
 
@@ -130,7 +130,7 @@ module _ (e : Env) (h : Store) (adds : AddsNoCell e.heap h) (is : AreSlots e) (r
     stand-parts (n ∷ ns) (x ∷ xs) p told below =
         ap₂ (λ u us. u ∷ us) (stand_part n x p.0 (told 0 (omega arith)) below.0) (stand-parts ns xs p.1 (λ j lt. told (suc j) (omega arith)) below.1)
 
-pub parts-length : (h : Store) (slots : List Slot) (r : Run) (ns : List Node) (xs : List Argument) → AreParts h slots r ns xs → length xs ≡ length ns
+pub parts-length : (h : Store) (slots : List Slot) (r : BlocksAt) (ns : List Node) (xs : List Argument) → AreParts h slots r ns xs → length xs ≡ length ns
 parts-length h slots r [] [] p = refl
 parts-length h slots r [] (x ∷ xs) p = absurd p
 parts-length h slots r (n ∷ ns) [] p = absurd p

@@ -11,7 +11,7 @@ use std::alloc::AllocError;
 
 /// The blocks of a compound: where the first one stands among the nodes and on the heap, and where the slots of its clause begin.
 #[derive(Clone, Copy)]
-pub(crate) struct Run {
+pub(crate) struct BlocksAt {
     pub(crate) from: u32,
     pub(crate) start: CellId,
     pub(crate) base: u32,
@@ -31,7 +31,7 @@ fn part_at(slots: &[Slot], slot: usize) -> Argument
 
 /// A node as an argument.
 #[inline(always)]
-fn part(heap: &mut Heap, slots: &[Slot], node: Node, run: &Run) -> Result<Argument, AllocError>
+fn part(heap: &mut Heap, slots: &[Slot], node: Node, run: &BlocksAt) -> Result<Argument, AllocError>
     requires { IsReady heap.old run.now node }
     ensures ok { IfOk result (λ x. IsPart heap.new slots.now run.now node x) }
     ensures grows { AddsNoCell heap.old heap.new }
@@ -66,7 +66,7 @@ pub(crate) fn gather(
     block: &mut Vec<Argument>,
     slots: &[Slot],
     row: &[Node],
-    run: &Run,
+    run: &BlocksAt,
 ) -> Result<Gathered, AllocError>
     requires { AreReady heap.old run.now row.now }
     ensures ok { IfOk result (λ g. IsGathered heap.new slots.now run.now row.now block.new.items g) }

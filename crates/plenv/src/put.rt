@@ -13,7 +13,7 @@ ghost use Rattle.plenv.specs.Changes.{NoneFreed, Puts, PutsAll, Stays};
 ghost use Rattle.plenv.specs.Blocks.{block_at, AreBuilt, HasFree, PutsBlock};
 ghost use Rattle.plenv.specs.Rows.{row_at, tree_at, CoversAll};
 
-use crate::block::{Gathered, Run, gather};
+use crate::block::{Gathered, BlocksAt, gather};
 use crate::env::{Environment, known, note};
 use crate::slot::{Noted, Row, Slot};
 use plcells::cell::Cell;
@@ -83,7 +83,7 @@ impl Environment {
         &mut self,
         nodes: &[Node],
         place: u32,
-        run: &Run,
+        run: &BlocksAt,
     ) -> Result<Option<u16>, AllocError>
         requires laid { IsLaid self.old.heap.names nodes.now }
         requires block { (f : _) × ((k : _) × IsBlockAt nodes.now run.now.from place f k) }
@@ -147,7 +147,7 @@ impl Environment {
     {
         known(&self.heap);
         let start = self.heap.next();
-        let run = Run { from, start, base };
+        let run = BlocksAt { from, start, base };
         let mut place = from;
         loop {
             let Some(arity) = self.put_block(nodes, place, &run)? else {

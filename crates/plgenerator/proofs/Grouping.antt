@@ -13,9 +13,9 @@ use Rattle.plcells.specs.Equations.{filled}
 use Rattle.plcells.proofs.Nodes.{bind-trees}
 use Rattle.plbuiltin.specs.Parts.{variables_from}
 use Rattle.plbuiltin.specs.Solution.{together, against}
-use Rattle.plgenerator.specs.declared.turn.Turn.TheVariants as turns
+use Rattle.plgenerator.specs.declared.turn.Remaining.TheVariants as turns
 use Rattle.plgenerator.specs.declared.turn.Groups.{Groups}
-use Rattle.plgenerator.specs.Answers.{left, IsTurn}
+use Rattle.plgenerator.specs.Answers.{left, IsRemaining}
 use Rattle.plgenerator.proofs.Equations.{solved_as}
 
 -- one variable more
@@ -102,5 +102,5 @@ module _ (h : Store) (vs : List Cell) (g k : Groups) where
       ap (map (against (take g.arguments us))) rest
       ∙ ap₂ (λ ts m. against ts (value h v) ∷ map (against (take m us)) (drop (k.arguments + k.passed) us)) front (sym same)
 
-  pub next-groups : g.arguments + g.passed < length vs → k.arguments ≡ g.arguments → k.passed ≡ g.passed + 1 → 0 < g.arguments → g.arguments ≤ 1023 → IsTurn h vs (turns.Groups k)
+  pub next-groups : g.arguments + g.passed < length vs → k.arguments ≡ g.arguments → k.passed ≡ g.passed + 1 → 0 < g.arguments → g.arguments ≤ 1023 → IsRemaining h vs (turns.Groups k)
   next-groups lt same more some few = (omega (arith, same, some), omega (arith, same, few), omega (arith, lt, same, more, length-map vs (value h)))

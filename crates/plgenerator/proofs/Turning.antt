@@ -8,9 +8,9 @@ use Rattle.plcells.specs.Store.{Store, value}
 use Rattle.plbuiltin.specs.Pieces.{text_of, as_text}
 use Rattle.plgenerator.specs.declared.turn.Part.{Part}
 use Rattle.plgenerator.specs.declared.turn.Split.{Split}
-use Rattle.plgenerator.specs.declared.turn.Turn.TheVariants as turns
+use Rattle.plgenerator.specs.declared.turn.Remaining.TheVariants as turns
 use Rattle.plgenerator.specs.Turns.{IsPart, IsSplit, parts_left, parts_if, splits_left, splits_if}
-use Rattle.plgenerator.specs.Answers.{parts_in, splits_in, left, left_if, IsTurn}
+use Rattle.plgenerator.specs.Answers.{parts_in, splits_in, left, left_if, IsRemaining}
 
 -- an integer or an atom is the atom of its text
 pub text-atom : (t : Tree) (o : Option (List ℕ)) → o ≡ text_of t → IfSome o (λ s. as_text t ≡ atom s)
@@ -27,7 +27,7 @@ module _ (h : Store) (a b l r s : Cell) (name : List ℕ) (is : value h a ≡ at
   parts-behind None = refl
   parts-behind (Some p) = parts-left p
 
-  pub turns-behind : (o : Option Part) → IfSome o (IsPart (chars name)) → IfSome (option_map turns.Part o) (IsTurn h (a ∷ b ∷ l ∷ r ∷ s ∷ []))
+  pub turns-behind : (o : Option Part) → IfSome o (IsPart (chars name)) → IfSome (option_map turns.Part o) (IsRemaining h (a ∷ b ∷ l ∷ r ∷ s ∷ []))
   turns-behind None p = tt
   turns-behind (Some q) p = (name, is, p)
 
@@ -46,7 +46,7 @@ module _ (h : Store) (a b c : Cell) (name : List ℕ) (is : text_of (value h c) 
   splits-behind None = refl
   splits-behind (Some s) = splits-left s
 
-  pub splits-turn : (o : Option Split) → IfSome o (IsSplit (chars name)) → IfSome (option_map turns.Split o) (IsTurn h (a ∷ b ∷ c ∷ []))
+  pub splits-turn : (o : Option Split) → IfSome o (IsSplit (chars name)) → IfSome (option_map turns.Split o) (IsRemaining h (a ∷ b ∷ c ∷ []))
   splits-turn None p = tt
   splits-turn (Some s) p = (name, is, p)
 

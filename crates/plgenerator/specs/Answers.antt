@@ -11,8 +11,8 @@ use Rattle.plbuiltin.specs.Pieces.{text_of, as_text}
 use Rattle.plgenerator.specs.declared.turn.Part.{Part}
 use Rattle.plgenerator.specs.declared.turn.Split.{Split}
 use Rattle.plgenerator.specs.declared.turn.Groups.{Groups}
-use Rattle.plgenerator.specs.declared.turn.Turn.{Turn}
-use Rattle.plgenerator.specs.declared.turn.Turn.TheVariants as turns
+use Rattle.plgenerator.specs.declared.turn.Remaining.{Remaining}
+use Rattle.plgenerator.specs.declared.turn.Remaining.TheVariants as turns
 use Rattle.plgenerator.specs.declared.generator.Found.{Found}
 use Rattle.plgenerator.specs.declared.wanted.Sought.{Sought}
 use Rattle.plgenerator.specs.Fitting.{fitting}
@@ -49,15 +49,15 @@ abbrev pub groups_for : List Tree → Groups → List Solution
 groups_for us g = map (against (take g.arguments us)) (drop (g.arguments + g.passed) us)
 
 -- of a call over these terms
-abbrev pub left_of_terms : List Tree → Turn → List Solution
+abbrev pub left_of_terms : List Tree → Remaining → List Solution
 left_of_terms us (turns.Part p) = parts_for us p
 left_of_terms us (turns.Split s) = splits_for us s
 left_of_terms us (turns.Groups g) = groups_for us g
 
-abbrev pub left : Store → List Cell → Turn → List Solution
+abbrev pub left : Store → List Cell → Remaining → List Solution
 left h vs turn = left_of_terms (map (value h) vs) turn
 
-abbrev pub left_if : Store → List Cell → Option Turn → List Solution
+abbrev pub left_if : Store → List Cell → Option Remaining → List Solution
 left_if h vs None = []
 left_if h vs (Some turn) = left h vs turn
 
@@ -73,17 +73,17 @@ IsSplitFor us s = ⊥
 abbrev pub AreGroups : List Tree → Groups → Type 0
 AreGroups us g = (0 < g.arguments) × (g.arguments ≤ 1023) × (g.arguments + g.passed ≤ length us)
 
-abbrev pub IsTurnOf : List Tree → Turn → Type 0
-IsTurnOf us (turns.Part p) = IsPartFor us p
-IsTurnOf us (turns.Split s) = IsSplitFor us s
-IsTurnOf us (turns.Groups g) = AreGroups us g
+abbrev pub IsRemainingOf : List Tree → Remaining → Type 0
+IsRemainingOf us (turns.Part p) = IsPartFor us p
+IsRemainingOf us (turns.Split s) = IsSplitFor us s
+IsRemainingOf us (turns.Groups g) = AreGroups us g
 
-abbrev pub IsTurn : Store → List Cell → Turn → Type 0
-IsTurn h vs turn = IsTurnOf (map (value h) vs) turn
+abbrev pub IsRemaining : Store → List Cell → Remaining → Type 0
+IsRemaining h vs turn = IsRemainingOf (map (value h) vs) turn
 
 -- an answer, behind some that have no unifier, and before those that are left
-pub record Finds (h : Store) (vs : List Cell) (turn : Turn) (f : Found) : Type 0 where
+pub record Finds (h : Store) (vs : List Cell) (turn : Remaining) (f : Found) : Type 0 where
   pub equation : IsEquation h f.equation
-  pub rest : IfSome f.rest (IsTurn h vs)
+  pub rest : IfSome f.rest (IsRemaining h vs)
   pub fewer : IfSome f.rest (λ rest. length (left h vs rest) < length (left h vs turn))
   pub is : (n : ℕ) → fitting (left h vs turn) ≡ fitting (solution_of h n f.equation ∷ left_if h vs f.rest)

@@ -2,14 +2,14 @@
 ghost use Rattle.std.specs.Prelude.{◌≡◌, [], ◌∷◌, option_map, IfOk, IfSome, IfNone};
 ghost use Rattle.plcells.specs.Store.{value, IsValue, AreValues};
 ghost use Rattle.plgenerator.specs.Fitting.{fitting};
-ghost use Rattle.plgenerator.specs.Answers.{left, IsTurn, Finds};
+ghost use Rattle.plgenerator.specs.Answers.{left, IsRemaining, Finds};
 
 use crate::argument::{atom_in, text_of};
 use crate::equation::{part_equation, split_equation};
 use crate::group::next_group;
 use crate::part::{first_part, part_after};
 use crate::split::first_split;
-use crate::turn::{Part, Split, Turn};
+use crate::turn::{Part, Split, Remaining};
 use crate::wanted::{Sought, wanted};
 use plcells::cell::Cell;
 use plcells::equation::Equation;
@@ -22,25 +22,25 @@ pub struct Found {
     /// The two terms that are to be unified; no variable is new.
     pub equation: Equation,
     /// The answers behind it, if there are any.
-    pub rest: Option<Turn>,
+    pub rest: Option<Remaining>,
 }
 
 /// The turn of a part.
-fn part_turn(part: Option<Part>) -> Option<Turn>
-    ensures { result ≡ option_map Turn.Part part }
+fn part_turn(part: Option<Part>) -> Option<Remaining>
+    ensures { result ≡ option_map Remaining.Part part }
 {
     match part {
-        Some(part) => Some(Turn::Part(part)),
+        Some(part) => Some(Remaining::Part(part)),
         None => None,
     }
 }
 
 /// The turn of a way to divide a text.
-fn split_turn(split: Option<Split>) -> Option<Turn>
-    ensures { result ≡ option_map Turn.Split split }
+fn split_turn(split: Option<Split>) -> Option<Remaining>
+    ensures { result ≡ option_map Remaining.Split split }
 {
     match split {
-        Some(split) => Some(Turn::Split(split)),
+        Some(split) => Some(Remaining::Split(split)),
         None => None,
     }
 }
@@ -58,9 +58,9 @@ fn next_part(
     requires length { IsValue heap.now sought.length }
     requires after { IsValue heap.now sought.after }
     requires text { IsValue heap.now sought.text }
-    requires turn { IsTurn heap.now (atom ∷ sought.before ∷ sought.length ∷ sought.after ∷ sought.text ∷ []) (Turn.Part part) }
-    ensures some { IfOk result (λ o. IfSome o (Finds heap.now (atom ∷ sought.before ∷ sought.length ∷ sought.after ∷ sought.text ∷ []) (Turn.Part part))) }
-    ensures none { IfOk result (λ o. IfNone o (fitting (left heap.now (atom ∷ sought.before ∷ sought.length ∷ sought.after ∷ sought.text ∷ []) (Turn.Part part)) ≡ [])) }
+    requires turn { IsRemaining heap.now (atom ∷ sought.before ∷ sought.length ∷ sought.after ∷ sought.text ∷ []) (Remaining.Part part) }
+    ensures some { IfOk result (λ o. IfSome o (Finds heap.now (atom ∷ sought.before ∷ sought.length ∷ sought.after ∷ sought.text ∷ []) (Remaining.Part part))) }
+    ensures none { IfOk result (λ o. IfNone o (fitting (left heap.now (atom ∷ sought.before ∷ sought.length ∷ sought.after ∷ sought.text ∷ []) (Remaining.Part part)) ≡ [])) }
 {
     let Some(name) = atom_in(heap, atom) else {
         return Ok(None);
@@ -86,9 +86,9 @@ fn next_split(
     requires front { IsValue heap.now sides.0 }
     requires back { IsValue heap.now sides.1 }
     requires whole { IsValue heap.now whole }
-    requires turn { IsTurn heap.now (sides.0 ∷ sides.1 ∷ whole ∷ []) (Turn.Split split) }
-    ensures some { IfOk result (λ o. IfSome o (Finds heap.now (sides.0 ∷ sides.1 ∷ whole ∷ []) (Turn.Split split))) }
-    ensures none { IfOk result (λ o. IfNone o (fitting (left heap.now (sides.0 ∷ sides.1 ∷ whole ∷ []) (Turn.Split split)) ≡ [])) }
+    requires turn { IsRemaining heap.now (sides.0 ∷ sides.1 ∷ whole ∷ []) (Remaining.Split split) }
+    ensures some { IfOk result (λ o. IfSome o (Finds heap.now (sides.0 ∷ sides.1 ∷ whole ∷ []) (Remaining.Split split))) }
+    ensures none { IfOk result (λ o. IfNone o (fitting (left heap.now (sides.0 ∷ sides.1 ∷ whole ∷ []) (Remaining.Split split)) ≡ [])) }
 {
     let Some(name) = text_of(alloc, heap, whole)? else {
         return Ok(None);
@@ -111,15 +111,15 @@ pub fn next(
     alloc: Global,
     heap: &Heap,
     args: &[Cell],
-    turn: Turn,
+    turn: Remaining,
 ) -> Result<Option<Found>, AllocError>
     requires args { AreValues heap.now args.now }
-    requires turn { IsTurn heap.now args.now turn }
+    requires turn { IsRemaining heap.now args.now turn }
     ensures some { IfOk result (λ o. IfSome o (Finds heap.now args.now turn)) }
     ensures none { IfOk result (λ o. IfNone o (fitting (left heap.now args.now turn) ≡ [])) }
 {
     match (turn, args) {
-        (Turn::Part(part), [atom, before, length, after, text]) => {
+        (Remaining::Part(part), [atom, before, length, after, text]) => {
             let sought = Sought {
                 before: *before,
                 length: *length,
@@ -128,10 +128,10 @@ pub fn next(
             };
             next_part(alloc, heap, *atom, sought, part)
         }
-        (Turn::Split(split), [front, back, whole]) => {
+        (Remaining::Split(split), [front, back, whole]) => {
             next_split(alloc, heap, (*front, *back), *whole, split)
         }
-        (Turn::Groups(groups), _) => next_group(alloc, args, groups),
+        (Remaining::Groups(groups), _) => next_group(alloc, args, groups),
         _ => Ok(None),
     }
 }

@@ -9,7 +9,7 @@ ghost use Rattle.plgenerator.specs.Answers.{solution_of, left, Finds};
 
 use crate::equation::together;
 use crate::generator::Found;
-use crate::turn::{Groups, Turn};
+use crate::turn::{Groups, Remaining};
 use plcells::cell::Cell;
 use plcells::equation::Equation;
 use plterm::term::Term;
@@ -55,8 +55,8 @@ pub(crate) fn next_group(
     requires some { 0 < groups.arguments }
     requires few { groups.arguments ≤ 1023 }
     requires within { groups.arguments + groups.passed ≤ length values.now }
-    ensures some { (h : Store) → AreValues h values.now → IfOk result (λ o. IfSome o (Finds h values.now (Turn.Groups groups))) }
-    ensures none { (h : Store) → IfOk result (λ o. IfNone o (fitting (left h values.now (Turn.Groups groups)) ≡ [])) }
+    ensures some { (h : Store) → AreValues h values.now → IfOk result (λ o. IfSome o (Finds h values.now (Remaining.Groups groups))) }
+    ensures none { (h : Store) → IfOk result (λ o. IfNone o (fitting (left h values.now (Remaining.Groups groups)) ≡ [])) }
 {
     let arguments = groups.arguments as usize;
     let place = arguments + groups.passed as usize;
@@ -67,7 +67,7 @@ pub(crate) fn next_group(
         return Err(AllocError);
     };
     let equation = group_equation(alloc, &values[..arguments], values[place])?;
-    let rest = Some(Turn::Groups(Groups {
+    let rest = Some(Remaining::Groups(Groups {
         arguments: groups.arguments,
         passed,
     }));

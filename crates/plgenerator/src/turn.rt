@@ -32,7 +32,7 @@ pub struct Groups {
 
 /// The answers that are left.
 #[derive(Clone, Copy)]
-pub enum Turn {
+pub enum Remaining {
     /// Of sub_atom/5 (ISO/IEC 13211-1 8.16.3).
     Part(Part),
     /// Of atom_concat/3 (8.16.2), whose third argument is divided.

@@ -40,11 +40,11 @@ pub record Opens (h : Store) (p : ℕ) (before after : List Cell) : Type 0 where
   pub second_is : value h second ≡ term h (suc (suc p))
 
 -- what a term is as a goal
-unfoldable pub Says : Store → Tree → Kind → Type 0
-Says h t Number = converted t ≡ None
-Says h t (Variable w) = IsValue h w × (converted t ≡ Some (compound (codes "call") (more (value h w) none)))
-Says h t (Construct p) = (t ≡ term h p) × IsConstruct h p
-Says h t (Goal w) = IsValue h w × (value h w ≡ t) × (converted t ≡ Some t)
+unfoldable pub IsKind : Store → Tree → Kind → Type 0
+IsKind h t Number = converted t ≡ None
+IsKind h t (Variable w) = IsValue h w × (converted t ≡ Some (compound (codes "call") (more (value h w) none)))
+IsKind h t (Construct p) = (t ≡ term h p) × IsConstruct h p
+IsKind h t (Goal w) = IsValue h w × (value h w ≡ t) × (converted t ≡ Some t)
 
 -- nodes spell the goal of a value's term, where each variable is one of these values
 pub record Spells (h : Store) (v : Cell) (ns : List Node) (vs : List Cell) : Type 0 where

@@ -6,7 +6,7 @@ ghost use Rattle.plcells.specs.Store.{at, term, value, IsHead, IsValue, Preserve
 ghost use Rattle.plcells.specs.Putting.{AddsNoVariable};
 ghost use Rattle.plterm.specs.Tree.{Trees, compound};
 ghost use Rattle.plterm.specs.declared.node.Node.TheVariants.{Var, Compound};
-ghost use Rattle.plgoals.specs.Goals.{IsGoal, IsConstruct, Opens, Says, Spells};
+ghost use Rattle.plgoals.specs.Goals.{IsGoal, IsConstruct, Opens, IsKind, Spells};
 
 use plcells::cell::Cell;
 use plcells::heap::Heap;
@@ -46,7 +46,7 @@ fn is_construct(heap: &Heap, p: CellId) -> bool
 /// What the term of a value is as a goal.
 fn kind_of(heap: &Heap, v: &Cell) -> Kind
     requires { IsValue heap.now v.now }
-    ensures { Says heap.now (value heap.now v.now) result }
+    ensures { IsKind heap.now (value heap.now v.now) result }
 {
     let root = heap.root(*v);
     match root {

@@ -53,10 +53,10 @@ pub record HasArgs (h : Store) (nodes : List Node) (w : Terms) (s t : Tree) (i c
   pub heap : IsHeap h
 
 -- what a verdict says of the terms of a node and of a value, whatever the node's variables stand for
-unfoldable pub Says : Store → List Node → Terms → Tree → Tree → Verdict → Type 0
-Says h nodes w s t Same = (σ τ : ℕ → Tree) → bind τ (bind σ s) ≡ bind τ t
-Says h nodes w s t Clash = (σ τ : ℕ → Tree) → bind τ (bind σ s) ≡ bind τ t → ⊥
-Says h nodes w s t (Args i c k) = HasArgs h nodes w s t i c k
+unfoldable pub IsVerdict : Store → List Node → Terms → Tree → Tree → Verdict → Type 0
+IsVerdict h nodes w s t Same = (σ τ : ℕ → Tree) → bind τ (bind σ s) ≡ bind τ t
+IsVerdict h nodes w s t Clash = (σ τ : ℕ → Tree) → bind τ (bind σ s) ≡ bind τ t → ⊥
+IsVerdict h nodes w s t (Args i c k) = HasArgs h nodes w s t i c k
 
 -- what a node's term u, which stands for s, and a value's term t came to: their unifier was put, they have none, or their arguments are left
 unfoldable pub Comes : Env → Env → List Node → Terms → Tree → Tree → Tree → Verdict → Type 0

@@ -7,7 +7,7 @@ ghost use Rattle.plcode.specs.declared.node.Node.TheVariants.{Var as VarNode};
 ghost use Rattle.plcode.specs.Laying.{IsLaid};
 ghost use Rattle.plcode.specs.Packed.{node_at, ArePacked, IsArgument};
 ghost use Rattle.plenv.specs.Rows.{tree_at};
-ghost use Rattle.plhead.specs.Fitting.{said, IsCompoundAt, Says};
+ghost use Rattle.plhead.specs.Fitting.{said, IsCompoundAt, IsVerdict};
 
 use plcells::cell::Cell;
 use plcells::heap::Heap;
@@ -64,7 +64,7 @@ fn compare_blocks(heap: &Heap, nodes: &[Node], root: u32, p: CellId) -> Verdict
     requires few { length nodes.now < 2 ^ 32 }
     requires node { (u : Tree) × IsCompoundAt heap.now.names nodes.now root u }
     requires value { IsValue heap.now (StrCell p) }
-    ensures { (u : Tree) → IsCompoundAt heap.now.names nodes.now root u → Says heap.now nodes.now (tree_at heap.now.names nodes.now) u (term heap.now p) result }
+    ensures { (u : Tree) → IsCompoundAt heap.now.names nodes.now root u → IsVerdict heap.now nodes.now (tree_at heap.now.names nodes.now) u (term heap.now p) result }
 {
     let (f, k) = heap.block(p);
     match nodes[root as usize] {
@@ -89,7 +89,7 @@ pub(crate) fn compare(heap: &Heap, nodes: &[Node], at: u32, v: Cell) -> Verdict
     requires heap { IsHeap heap.now }
     requires value { IsValue heap.now v }
     requires solid { (j : ℕ) → v ≡ RefCell j → ⊥ }
-    ensures { Says heap.now nodes.now (tree_at heap.now.names nodes.now) (tree_at heap.now.names nodes.now at) (value heap.now v) result }
+    ensures { IsVerdict heap.now nodes.now (tree_at heap.now.names nodes.now) (tree_at heap.now.names nodes.now at) (value heap.now v) result }
 {
     match nodes[at as usize] {
         Node::Atom(a) => verdict_of(is_atom(a, v)),

@@ -1,8 +1,8 @@
 //! Terms that are seen to be apart from a value.
-use crate::made::{empty, put_text};
 use plbind::apart::are_apart;
 use plenv::env::Environment;
 use plload::goal::read_goal;
+use plmade::made::{empty, put_text};
 use std::alloc::Global;
 use std::test::Fail;
 

@@ -1,6 +1,6 @@
 //! Terms as goals, terms with further arguments, and the order of terms.
-use crate::made::{empty, put_arguments, shown, told};
 use plenv::env::Environment;
+use plmade::made::{empty, put_arguments, shown, told};
 use plorder::compare::{Room, compare};
 use plorder::variables::is_ground;
 use std::alloc::Global;

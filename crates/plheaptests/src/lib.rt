@@ -1,21 +1,21 @@
-//! Tests of terms on the machine's heap: unification, goals, the order of terms, lists in it, and the slots of clauses.
+//! Tests of terms on the machine's heap: cells, unification, choices, goals, the order of terms, and lists.
 #![tactic(auto)]
 
 #[cfg(test)]
 mod apart;
 #[cfg(test)]
-mod codes;
+mod cells;
+#[cfg(test)]
+mod choices;
 #[cfg(test)]
 mod goals;
 #[cfg(test)]
 mod lists;
 #[cfg(test)]
-mod made;
-#[cfg(test)]
 mod pairs;
 #[cfg(test)]
 mod plain;
 #[cfg(test)]
-mod slots;
+mod terms;
 #[cfg(test)]
 mod unification;

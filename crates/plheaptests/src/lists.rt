@@ -2,10 +2,10 @@
 ghost use Rattle.std.specs.Prelude.{IfOk};
 ghost use Rattle.plcells.specs.Store.{AreValues, IsValue};
 
-use crate::made::{empty, put_arguments, shown, told};
 use plcells::cell::Cell;
 use plcells::heap::Heap;
 use plenv::env::Environment;
+use plmade::made::{empty, put_arguments, shown, told};
 use plorder::compare::Room;
 use plorder::occurrences::variables_of;
 use plsort::sort::{by_key, set_of, sorted};

@@ -1,10 +1,10 @@
 //! Unification as it is defined, on the nodes of terms in prefix order, beside the machine's: where two terms first differ from the left, a
 //! variable stands for the term on the other side, in both of them, until they are the same.
-use crate::made::empty;
 use crate::pairs::{FIFTH, FIRST, FOURTH, SECOND, THIRD};
 use crate::unification::unified_side;
 use plenv::env::Environment;
 use plload::goal::read_goal;
+use plmade::made::empty;
 use plterm::node::Node;
 use plterm::term::Term;
 use plterm::walk::Shape;
@@ -93,23 +93,23 @@ fn put(alloc: Global, number: u64, term: &[Node], into: &[Node]) -> Result<Vec<N
 }
 
 /// Two terms that are unified one variable further.
-enum Turn {
+enum Round {
     Same,
     Apart,
     Further(Vec<Node>, Vec<Node>),
 }
 
 /// One variable is bound in both terms.
-fn round(alloc: Global, left: &[Node], right: &[Node]) -> Result<Turn, AllocError> {
+fn round(alloc: Global, left: &[Node], right: &[Node]) -> Result<Round, AllocError> {
     let Some((first, second)) = difference(left, right) else {
-        return Ok(Turn::Same);
+        return Ok(Round::Same);
     };
     match binding(first, second) {
-        Some((number, term)) if !occurs(number, term) => Ok(Turn::Further(
+        Some((number, term)) if !occurs(number, term) => Ok(Round::Further(
             put(alloc, number, term, left)?,
             put(alloc, number, term, right)?,
         )),
-        _ => Ok(Turn::Apart),
+        _ => Ok(Round::Apart),
     }
 }
 
@@ -119,9 +119,9 @@ fn plain(alloc: Global, left: &Term, right: &Term) -> Result<Option<Vec<Node>>, 
     let mut right = prefix(alloc, right)?;
     for _ in 0..ROUNDS {
         match round(alloc, &left, &right)? {
-            Turn::Same => return Ok(Some(left)),
-            Turn::Apart => return Ok(None),
-            Turn::Further(first, second) => {
+            Round::Same => return Ok(Some(left)),
+            Round::Apart => return Ok(None),
+            Round::Further(first, second) => {
                 left = first;
                 right = second;
             }

@@ -2,11 +2,11 @@
 ghost use Rattle.std.specs.Prelude.{IfOk, IfSome};
 ghost use Rattle.plcells.specs.Store.{IsValue};
 
-use crate::made::{empty, put_arguments, shown};
 use crate::pairs::{FIFTH, FIRST, FOURTH, SECOND, THIRD};
 use plcells::cell::Cell;
 use plcells::heap::Heap;
 use plenv::env::Environment;
+use plmade::made::{empty, put_arguments, shown};
 use std::alloc::Global;
 use std::string::String;
 use std::test::Fail;

@@ -4,7 +4,7 @@ use Rattle.std.specs.Io.KnownBytes.{Consumes}
 use Rattle.std.proofs.lemmas.Bool.{ltb-true, ltb-false}
 use Rattle.plio.specs.Causes.{count_up, TookCount}
 use Rattle.plio.specs.Memory.{MemoryInput, next_fails, given_count, after_read, memory_left, memory_after}
-use Rattle.plio.specs.Turns.{room_behind, Turn, ByTurns, no_turn, one_more, TookByTurns}
+use Rattle.plio.specs.Turns.{room_behind, OneTurn, ByTurns, no_turn, one_more, TookByTurns}
 
 one_call : (s : MemoryInput) (room : ℕ) → (after_read s room).calls ≡ count_up s.calls
 one_call s room = by (next_fails s.fails s.calls) where
@@ -80,7 +80,7 @@ one_way limit old turns others n new other h j = at (nat_lt turns others) refl w
 pub grown : {A : Type 0} (left : A → Option (List ℕ)) (after : A → ℕ → Option A) (limit : ℕ) (old s new : A) (n m total room : ℕ) (buf : List ℕ) → TookByTurns left after limit old n s → 0 < m → m ≤ length buf →
     Consumes (left s) (left new) (take m buf) → IfSome (after s room) (λ x. new ≡ x) → room ≡ room_behind limit n → total ≡ n + m → TookByTurns left after limit old total new
 grown left after limit old s new n m total room buf h some within bytes told is_room is_total =
-    let turn : Turn left after (room_behind limit n) s m new = (subst (λ r. IfSome (after s r) (λ x. new ≡ x)) is_room told, (take m buf, bytes, omega (arith, length-take m buf))) in
+    let turn : OneTurn left after (room_behind limit n) s m new = (subst (λ r. IfSome (after s r) (λ x. new ≡ x)) is_room told, (take m buf, bytes, omega (arith, length-take m buf))) in
     (suc h.0, subst (λ k. ByTurns left after limit old (suc h.0) k new) (sym is_total) (one_more h.1 some turn))
 
 -- before the first turn

@@ -18,7 +18,7 @@ use Rattle.plread.specs.Texts.{nil, curly, dot, list_term}
 use Rattle.plread.specs.Reading.{count, Start, Opens, OpensList, OpensCurly, Calls, Before, Stop, called, joined, signed, begins, square_start, curly_start, start_of, next_of, Reads, reads, Begins, leaf, bracket, list, braces, call, before_op, Extends, stop, between_op, behind_op, Arguments, last, another, Elements, closed, tailed, element, Spells}
 use Rattle.plwrite.specs.declared.style.Style.{Style}
 use Rattle.plwrite.specs.declared.text.Sign.TheVariants as marks
-use Rattle.plwrite.specs.declared.place.Place.{Place}
+use Rattle.plwrite.specs.declared.place.TermPlace.{TermPlace}
 use Rattle.plwrite.specs.declared.place.Position.TheVariants.{At, Tail}
 use Rattle.plwrite.specs.declared.form.Alone.{Alone}
 use Rattle.plwrite.specs.declared.form.Alone.TheVariants as alone
@@ -65,7 +65,7 @@ module _ (ops : OpTable) (style : Style) where
   priority_of (atom s) = 0
   priority_of (compound s args) = op_priority (op_of ops style s args)
 
-  abbrev pub needs : Place → Tree → Bool
+  abbrev pub needs : TermPlace → Tree → Bool
   needs place (var n) = false
   needs place (int i) = false
   needs place (atom s) = is_bracketed_atom ops style place s
@@ -86,7 +86,7 @@ module _ (ops : OpTable) (style : Style) where
       Reads ops room most (body o rest) u q left)
 
   abbrev AtBack : Tree → Type 0
-  AtBack t = (place : Place) → Placed t (priority_of t) (needs place t) (Quiet t) (λ o rest. signs ops style (At place) t o rest) (levels_of ops style (At place) t) place.most
+  AtBack t = (place : TermPlace) → Placed t (priority_of t) (needs place t) (Quiet t) (λ o rest. signs ops style (At place) t o rest) (levels_of ops style (At place) t) place.most
 
   abbrev TailBack : Tree → Type 0
   TailBack b =
@@ -111,7 +111,7 @@ module _ (ops : OpTable) (style : Style) where
   calm_comma s (atom a) rest h = inr refl
   calm_comma s (compound f args) rest h = comma_stops ops s (op_of ops style f args) rest (sane_op ops style f args s) h
 
-  pub under : (place : Place) (t : Tree) → needs place t ≡ false → priority_of t ≤ place.most
+  pub under : (place : TermPlace) (t : Tree) → needs place t ≡ false → priority_of t ≤ place.most
   under place (var n) e = omega arith
   under place (int i) e = omega arith
   under place (atom a) e = omega arith
@@ -134,7 +134,7 @@ module _ (ops : OpTable) (style : Style) where
         x
 
   -- a term in its place before a sign that ends it, and as an argument before a comma
-  place_end : (place : Place) (t : Tree) → AtBack t → (o : Option Word) (room : ℕ) (s : Sign) (rest : List Sign) → Ends s → levels_of ops style (At place) t ≤ room → (p : ℕ) × Reads ops room place.most (signs ops style (At place) t o (s ∷ rest)) t p (s ∷ rest)
+  place_end : (place : TermPlace) (t : Tree) → AtBack t → (o : Option Word) (room : ℕ) (s : Sign) (rest : List Sign) → Ends s → levels_of ops style (At place) t ≤ room → (p : ℕ) × Reads ops room place.most (signs ops style (At place) t o (s ∷ rest)) t p (s ∷ rest)
   place_end place t law o room s rest h enough =
       (_, law place o room place.most (s ∷ rest) t (cond (needs place t) 0 (priority_of t)) (s ∷ rest) enough (omega arith) (λ e. quiet_end t s rest h) (stops_at (next_end ops place.most _ s rest h)))
 
@@ -193,16 +193,16 @@ module _ (ops : OpTable) (style : Style) where
   opening_atom false false s rest = (refl, refl)
 
   abbrev Opens_at : Tree → Type 0
-  Opens_at t = (place : Place) (o : Option Word) (rest : List Sign) → Opening (signs ops style (At place) t o rest)
+  Opens_at t = (place : TermPlace) (o : Option Word) (rest : List Sign) → Opening (signs ops style (At place) t o rest)
 
-  opening_alone : (s : List ℕ) (a : Tree) → Opens_at a → (f : Alone) (place : Place) (o : Option Word) (rest : List Sign) → Opening (alone_signs style (At place) s f (λ p q ws. signs ops style p a q ws) o rest)
+  opening_alone : (s : List ℕ) (a : Tree) → Opens_at a → (f : Alone) (place : TermPlace) (o : Option Word) (rest : List Sign) → Opening (alone_signs style (At place) s f (λ p q ws. signs ops style p a q ws) o rest)
   opening_alone s a law (alone.Letter n) place o rest = (refl, refl)
   opening_alone s a law alone.Curly place o rest = (refl, refl)
   opening_alone s a law (alone.Before op) place o rest = opening_bracketed (needs_brackets place (operators.Before op)) (λ q ws. name_sign s ∷ signs ops style (At (right_of_prefix op)) a (Some (prefix style s)) ws) o rest (refl, refl)
   opening_alone s a law (alone.Behind op) place o rest = opening_bracketed (needs_brackets place (operators.Behind op)) (λ q ws. signs ops style (At (left_of_postfix op)) a q (operator_sign s ∷ ws)) o rest (law (left_of_postfix op) o _)
   opening_alone s a law alone.Functional place o rest = (refl, refl)
 
-  opening_pair : (s : List ℕ) (a b : Tree) → Opens_at a → (f : Pair) (place : Place) (o : Option Word) (rest : List Sign) → Opening (pair_signs style (At place) s f (λ p q ws. signs ops style p a q ws) (λ p q ws. signs ops style p b q ws) o rest)
+  opening_pair : (s : List ℕ) (a b : Tree) → Opens_at a → (f : Pair) (place : TermPlace) (o : Option Word) (rest : List Sign) → Opening (pair_signs style (At place) s f (λ p q ws. signs ops style p a q ws) (λ p q ws. signs ops style p b q ws) o rest)
   opening_pair s a b law pair.List place o rest = (refl, refl)
   opening_pair s a b law (pair.Between op) place o rest = opening_bracketed (needs_brackets place (operators.Between op)) (λ q ws. signs ops style (At (left_of op)) a q (operator_sign s ∷ signs ops style (At (right_of op)) b (Some (operator style s)) ws)) o rest (law (left_of op) o _)
   opening_pair s a b law pair.Functional place o rest = (refl, refl)
@@ -262,9 +262,9 @@ module _ (ops : OpTable) (style : Style) where
   fronts_atom uses n false false s rest h = fronts_name uses n s _ rest h
 
   abbrev FrontsAt : Tree → Type 0
-  FrontsAt t = (place : Place) → place.is_operand ≡ true → (n : List ℕ) (rest : List Sign) → Fronts n (signs ops style (At place) t (Some (prefix style n)) rest)
+  FrontsAt t = (place : TermPlace) → place.is_operand ≡ true → (n : List ℕ) (rest : List Sign) → Fronts n (signs ops style (At place) t (Some (prefix style n)) rest)
 
-  fronts_alone : (s : List ℕ) (a : Tree) → FrontsAt a → (f : Alone) → AloneIs ops style s f → (place : Place) (n : List ℕ) (rest : List Sign) → Fronts n (alone_signs style (At place) s f (λ p q ws. signs ops style p a q ws) (Some (prefix style n)) rest)
+  fronts_alone : (s : List ℕ) (a : Tree) → FrontsAt a → (f : Alone) → AloneIs ops style s f → (place : TermPlace) (n : List ℕ) (rest : List Sign) → Fronts n (alone_signs style (At place) s f (λ p q ws. signs ops style p a q ws) (Some (prefix style n)) rest)
   fronts_alone s a law (alone.Letter i) h place n rest = (refl, unsigned n, refl)
   fronts_alone s a law alone.Curly h place n rest = (refl, unsigned n, refl)
   fronts_alone s a law (alone.Before op) h place n rest =
@@ -273,7 +273,7 @@ module _ (ops : OpTable) (style : Style) where
       fronts_bracketed n (needs_brackets place (operators.Behind op)) (λ q ws. signs ops style (At (left_of_postfix op)) a q (operator_sign s ∷ ws)) rest (λ e. law (left_of_postfix op) refl n _)
   fronts_alone s a law alone.Functional h place n rest = (refl, unsigned n, refl)
 
-  fronts_pair : (s : List ℕ) (a b : Tree) → FrontsAt a → (f : Pair) (place : Place) (n : List ℕ) (rest : List Sign) → Fronts n (pair_signs style (At place) s f (λ p q ws. signs ops style p a q ws) (λ p q ws. signs ops style p b q ws) (Some (prefix style n)) rest)
+  fronts_pair : (s : List ℕ) (a b : Tree) → FrontsAt a → (f : Pair) (place : TermPlace) (n : List ℕ) (rest : List Sign) → Fronts n (pair_signs style (At place) s f (λ p q ws. signs ops style p a q ws) (λ p q ws. signs ops style p b q ws) (Some (prefix style n)) rest)
   fronts_pair s a b law pair.List place n rest = (refl, unsigned n, refl)
   fronts_pair s a b law (pair.Between op) place n rest =
       fronts_bracketed n (needs_brackets place (operators.Between op)) (λ q ws. signs ops style (At (left_of op)) a q (operator_sign s ∷ signs ops style (At (right_of op)) b (Some (operator style s)) ws)) rest (λ e. law (left_of op) refl n _)
@@ -298,7 +298,7 @@ module _ (ops : OpTable) (style : Style) where
   -- ---- operands
 
   -- an operand that is followed by nothing that it takes
-  pub calm_operand : IsSane ops → Uses style → (place : Place) → place.is_operand ≡ true → (t : Tree) → needs place t ≡ false → (rest : List Sign) → Stops ops place.most rest → Calm t rest
+  pub calm_operand : IsSane ops → Uses style → (place : TermPlace) → place.is_operand ≡ true → (t : Tree) → needs place t ≡ false → (rest : List Sign) → Stops ops place.most rest → Calm t rest
   calm_operand s uses place e (var n) h rest k = tt
   calm_operand s uses place e (int i) h rest k = tt
   calm_operand s uses place e (atom a) h rest k = inl (no_prefix (prefix_of ops a) _ (sym (plain_operator ops style uses a) ∙ sym (ap (λ b. b && is_operator ops style a) e) ∙ h))
@@ -316,12 +316,12 @@ module _ (ops : OpTable) (style : Style) where
   calm_post s uses n op e (atom m) h ts = inl (no_prefix (prefix_of ops m) _ (sym (plain_operator ops style uses m) ∙ h))
   calm_post s uses n op e (compound m args) h ts = post_stops ops n op (op_of ops style m args) ts s e (sane_op ops style m args s) h
 
-  pub placed_priority : (place : Place) (t : Tree) (b : Bool) → (b ≡ false → priority_of t ≤ place.most) → cond b 0 (priority_of t) ≤ place.most
+  pub placed_priority : (place : TermPlace) (t : Tree) (b : Bool) → (b ≡ false → priority_of t ≤ place.most) → cond b 0 (priority_of t) ≤ place.most
   placed_priority place t true h = omega arith
   placed_priority place t false h = h refl
 
   -- the right operand of an operator, before signs that the operator does not take
-  operand_at : IsSane ops → Uses style → (place : Place) → place.is_operand ≡ true → (t : Tree) → AtBack t → (o : Option Word) (room : ℕ) (rest : List Sign) → levels_of ops style (At place) t ≤ room → called rest ≡ None → joined rest ≡ None → Stops ops place.most rest → (p : ℕ) × Reads ops room place.most (signs ops style (At place) t o rest) t p rest
+  operand_at : IsSane ops → Uses style → (place : TermPlace) → place.is_operand ≡ true → (t : Tree) → AtBack t → (o : Option Word) (room : ℕ) (rest : List Sign) → levels_of ops style (At place) t ≤ room → called rest ≡ None → joined rest ≡ None → Stops ops place.most rest → (p : ℕ) × Reads ops room place.most (signs ops style (At place) t o rest) t p rest
   operand_at s uses place e t law o room rest enough c j k = (
     _,
     law place o room place.most rest t (cond (needs place t) 0 (priority_of t)) rest enough (omega arith) (λ h. (c, j, calm_operand s uses place e t h rest k))
@@ -367,7 +367,7 @@ module _ (ops : OpTable) (style : Style) where
   one_argument : (a : Tree) → AtBack a → (room : ℕ) (rest : List Sign) → levels_of ops style (At argument) a ≤ room → Arguments ops room (signs ops style (At argument) a (after marks.Open) (tok.Close ∷ rest)) (more a none) rest
   one_argument a law room rest enough = last (place_end argument a law (after marks.Open) room tok.Close rest tt enough).1
 
-  alone_back : IsSane ops → (s : List ℕ) (a : Tree) → AtBack a → (f : Alone) → AloneIs ops style s f → SaneOp (alone_op f) → (place : Place) → Placed (compound s (more a none)) (op_priority (alone_op f)) (op_needs place (alone_op f)) (OpQuiet (alone_op f)) (λ o rest. alone_signs style (At place) s f (λ p q ws. signs ops style p a q ws) o rest) (alone_levels (At place) f (λ p. levels_of ops style p a)) place.most
+  alone_back : IsSane ops → (s : List ℕ) (a : Tree) → AtBack a → (f : Alone) → AloneIs ops style s f → SaneOp (alone_op f) → (place : TermPlace) → Placed (compound s (more a none)) (op_priority (alone_op f)) (op_needs place (alone_op f)) (OpQuiet (alone_op f)) (λ o rest. alone_signs style (At place) s f (λ p q ws. signs ops style p a q ws) o rest) (alone_levels (At place) f (λ p. levels_of ops style p a)) place.most
   alone_back w s a law (alone.Letter n) h k place = call_back s _ (more a none) (λ rest. signs ops style (At argument) a (after marks.Open) (tok.Close ∷ rest)) (levels_of ops style (At argument) a) place.most _ (omega arith) (one_argument a law)
   alone_back w s a law alone.Functional h k place = call_back s _ (more a none) (λ rest. signs ops style (At argument) a (after marks.Open) (tok.Close ∷ rest)) (levels_of ops style (At argument) a) place.most _ (omega arith) (one_argument a law)
   alone_back w s a law alone.Curly h k place = curly_back s a place.most _ law h
@@ -490,7 +490,7 @@ module _ (ops : OpTable) (style : Style) where
   two_arguments w a b law other room rest enough =
       another (argument_comma w a law (after marks.Open) room _ (within_left _ (levels_of ops style (At argument) b) room enough)).1 (last (place_end argument b other (after marks.Comma) room tok.Close rest tt (within_right (levels_of ops style (At argument) a) _ room enough)).1)
 
-  pair_back : IsSane ops → (s : List ℕ) (a b : Tree) → AtBack a → AtBack b → TailBack b → (f : Pair) → PairIs ops style s f → SaneOp (pair_op f) → (place : Place) → Placed (compound s (more a (more b none))) (op_priority (pair_op f)) (op_needs place (pair_op f)) (OpQuiet (pair_op f)) (λ o rest. pair_signs style (At place) s f (λ p q ws. signs ops style p a q ws) (λ p q ws. signs ops style p b q ws) o rest) (pair_levels (At place) f (λ p. levels_of ops style p a) (λ p. levels_of ops style p b)) place.most
+  pair_back : IsSane ops → (s : List ℕ) (a b : Tree) → AtBack a → AtBack b → TailBack b → (f : Pair) → PairIs ops style s f → SaneOp (pair_op f) → (place : TermPlace) → Placed (compound s (more a (more b none))) (op_priority (pair_op f)) (op_needs place (pair_op f)) (OpQuiet (pair_op f)) (λ o rest. pair_signs style (At place) s f (λ p q ws. signs ops style p a q ws) (λ p q ws. signs ops style p b q ws) o rest) (pair_levels (At place) f (λ p. levels_of ops style p a) (λ p. levels_of ops style p b)) place.most
   pair_back w s a b law other tail pair.List h k place = list_back w s a b place.most (OpQuiet None) law tail h
   pair_back w s a b law other tail pair.Functional h k place =
       call_back s _ (more a (more b none)) (λ rest. signs ops style (At argument) a (after marks.Open) (tok.Comma ∷ signs ops style (At argument) b (after marks.Comma) (tok.Close ∷ rest))) (max (levels_of ops style (At argument) a) (levels_of ops style (At argument) b)) place.most (OpQuiet None) (omega arith) (two_arguments w a b law other)
@@ -524,7 +524,7 @@ module _ (ops : OpTable) (style : Style) where
   atom_inner : (s : List ℕ) → Inner (atom s) 0 (Quiet (atom s)) (λ p ws. atom_signs s ws) 0
   atom_inner s = λ o room most rest u q left enough h quiet x. reads_from _ (start_atom ops most s rest quiet.0 quiet.1 quiet.2) leaf x
 
-  atom_placed : (s : List ℕ) (place : Place) → Placed (atom s) 0 (is_bracketed_atom ops style place s) (Quiet (atom s)) (bracketed (is_bracketed_atom ops style place s) (λ p ws. atom_signs s ws)) (bracketed_levels (is_bracketed_atom ops style place s) 0) place.most
+  atom_placed : (s : List ℕ) (place : TermPlace) → Placed (atom s) 0 (is_bracketed_atom ops style place s) (Quiet (atom s)) (bracketed (is_bracketed_atom ops style place s) (λ p ws. atom_signs s ws)) (bracketed_levels (is_bracketed_atom ops style place s) 0) place.most
   atom_placed s place = bracket_back (atom s) 0 (is_bracketed_atom ops style place s) (Quiet (atom s)) (λ p ws. atom_signs s ws) 0 place.most (omega arith) (λ e. omega arith) (λ rest. quiet_end (atom s) tok.Close rest tt) (atom_inner s)
 
   atom_back : (s : List ℕ) → AtBack (atom s)

@@ -21,8 +21,8 @@ use Rattle.pllex.specs.declared.quoted.Quoted.TheVariants as ends
 use Rattle.pllex.specs.declared.token.Kind.{Kind}
 use Rattle.pllex.specs.declared.token.Kind.TheVariants as kinds
 use Rattle.pllex.specs.declared.token.Token.{Token}
-use Rattle.pllex.specs.declared.token.Item.{Item}
-use Rattle.pllex.specs.declared.token.Item.TheVariants as items
+use Rattle.pllex.specs.declared.token.Scanned.{Scanned}
+use Rattle.pllex.specs.declared.token.Scanned.TheVariants as items
 use Rattle.pllex.specs.declared.token.Fault.TheVariants as faults
 use Rattle.pllex.specs.declared.layout.Mode.{Mode}
 use Rattle.pllex.specs.declared.layout.Mode.TheVariants as modes
@@ -34,14 +34,14 @@ use Rattle.pllex.specs.Characters.{begins_with, rest_of_character, after_mark}
 use Rattle.pllex.specs.Classes.{is_digit, is_control}
 use Rattle.pllex.specs.Escapes.{escape_turn, code_goes_on, escape_code}
 use Rattle.pllex.specs.Quoted.{quoted}
-use Rattle.pllex.specs.Tokens.{run_end, token, named, symbols, number, value, stray, gap, gap_end, goes_on, turn, item_of, item_at, after_gap, item_behind, next_item, is_end, Run, IsClause}
+use Rattle.pllex.specs.Tokens.{run_end, token, named, symbols, number, value, stray, gap, gap_end, goes_on, turn, item_of, item_at, after_gap, item_behind, next_item, is_end, TokensBetween, IsClause}
 use Rattle.pllex.specs.Tokens as lex
 use Rattle.pllex.proofs.RunEnds.{run_behind}
 use Rattle.pllex.proofs.Items.{shut}
 use Rattle.pllaws.proofs.Places.{nothing_left}
 
 -- a token that stands there ends behind this place
-abbrev Behind : ℕ → Item → Type 0
+abbrev Behind : ℕ → Scanned → Type 0
 Behind place (items.Token t) = place < t.end
 Behind place (items.Fault fault at) = Unit {0}
 Behind place items.Nothing = Unit {0}
@@ -179,7 +179,7 @@ at_behind : (text : List ℕ) (place : ℕ) (bytes : List ℕ) → Behind place 
 at_behind text place [] = tt
 at_behind text place (b ∷ bytes) = of_behind text place b bytes
 
-farther : (from place : ℕ) (item : Item) → from ≤ place → Behind place item → Behind from item
+farther : (from place : ℕ) (item : Scanned) → from ≤ place → Behind place item → Behind from item
 farther from place (items.Token t) h k = omega arith
 farther from place (items.Fault fault at) h k = tt
 farther from place items.Nothing h k = tt
@@ -213,10 +213,10 @@ token_within text place t e = by (ltb place (length text)) refl where
   by true k = ltb-true place (length text) k
   by false k = let past = none_past text place (omega (arith, ltb-false place (length text) k)) in absurd cc
 
-run_few : (text : List ℕ) (from : ℕ) (ts : List Token) (place : ℕ) → Run text from ts place → from + length ts ≤ place
+run_few : (text : List ℕ) (from : ℕ) (ts : List Token) (place : ℕ) → TokensBetween text from ts place → from + length ts ≤ place
 run_few text from [] place r = let here : from ≡ place = r in omega arith
 run_few text from (t ∷ ts) place r = omega (arith, token_behind text from t r.0, run_few text t.end ts place r.2)
 
 -- the tokens of a clause, without the last, and the place of the last
-pub few_tokens : (text : List ℕ) (from : ℕ) (front : List Token) (end : Token) (place : ℕ) → Run text from front place → next_item text place ≡ items.Token end → length front + 1 ≤ length text
+pub few_tokens : (text : List ℕ) (from : ℕ) (front : List Token) (end : Token) (place : ℕ) → TokensBetween text from front place → next_item text place ≡ items.Token end → length front + 1 ≤ length text
 few_tokens text from front end place r e = omega (arith, run_few text from front place r, token_within text place end e)

@@ -23,7 +23,7 @@ use Rattle.plwrite.specs.declared.text.Edge.{Edge}
 use Rattle.plwrite.specs.declared.text.Role.TheVariants.{PrefixOperator, PrefixMinus}
 use Rattle.plwrite.specs.Names.{is_bare}
 use Rattle.plwrite.specs.Words.{Word, first_byte, edge_of, is_letter, is_held_off, touches, prefix}
-use Rattle.plwrite.specs.declared.place.Place.{Place}
+use Rattle.plwrite.specs.declared.place.TermPlace.{TermPlace}
 use Rattle.plwrite.specs.Places.{needs_brackets, left_of, left_of_postfix, priority}
 use Rattle.pllaws.proofs.Digits.{first_digit}
 use Rattle.pllaws.specs.Written.{is_direct, paren, operator_sign, name_sign, integer_signs, atom_signs, Fits}
@@ -269,7 +269,7 @@ abbrev pub op_priority : Option Operator → ℕ
 op_priority None = 0
 op_priority (Some op) = priority op
 
-abbrev pub op_needs : Place → Option Operator → Bool
+abbrev pub op_needs : TermPlace → Option Operator → Bool
 op_needs place None = false
 op_needs place (Some op) = needs_brackets place op
 
@@ -288,7 +288,7 @@ below_top (Some (operators.Behind op)) s = s.1
 or_left : (p max : ℕ) (x : Bool) → (nat_lt max p || x) ≡ false → p ≤ max
 or_left p max x h = grind (arith, nat_tests)
 
-pub below_max : (place : Place) (o : Option Operator) → op_needs place o ≡ false → op_priority o ≤ place.most
+pub below_max : (place : TermPlace) (o : Option Operator) → op_needs place o ≡ false → op_priority o ≤ place.most
 below_max place None e = omega arith
 below_max place (Some op) e = or_left (priority op) place.most _ e
 

@@ -17,7 +17,7 @@ use Rattle.plread.specs.Texts.{nil, curly, dot, list_term}
 use Rattle.plread.specs.Reading.{Start, Stands, Opens, OpensList, OpensCurly, Calls, Before, Between, Behind, Stop, called, joined, start_of, next_of, Reads, reads, Begins, leaf, bracket, list, braces, call, before_op, Extends, stop, between_op, behind_op, Arguments, last, another, Elements, closed, tailed, element, Spells}
 use Rattle.plwrite.specs.declared.style.Style.{Style}
 use Rattle.plwrite.specs.declared.text.Sign.TheVariants as marks
-use Rattle.plwrite.specs.declared.place.Place.{Place}
+use Rattle.plwrite.specs.declared.place.TermPlace.{TermPlace}
 use Rattle.plwrite.specs.declared.place.Position.TheVariants.{At, Tail}
 use Rattle.plwrite.specs.declared.form.Alone.{Alone}
 use Rattle.plwrite.specs.declared.form.Alone.TheVariants as alone
@@ -126,7 +126,7 @@ module _ (ops : OpTable) (style : Style) where
       Onward ops room need most t p rest u q left)
 
   abbrev AtHeld : Tree → Type 0
-  AtHeld t = (place : Place) → Held t (priority_of ops style t) (needs ops style place t) (Quiet ops style t) (λ o rest. signs ops style (At place) t o rest) (levels_of ops style (At place) t) place.most
+  AtHeld t = (place : TermPlace) → Held t (priority_of ops style t) (needs ops style place t) (Quiet ops style t) (λ o rest. signs ops style (At place) t o rest) (levels_of ops style (At place) t) place.most
 
   -- every reading of these signs is the one of this element
   abbrev ReadsOnly : ℕ → List Sign → Tree → List Sign → Type 0
@@ -153,7 +153,7 @@ module _ (ops : OpTable) (style : Style) where
       record { enough = omega (arith, k.enough, i.2); onward = moved k.term i.3 (behind_sign k.there) g.onward }
 
   -- a term in its place before a sign that ends it, and as an argument before a comma
-  place_end : (place : Place) (t : Tree) → AtHeld t → (o : Option Word) (room : ℕ) (s : Sign) (rest : List Sign) → Ends s → (u : Tree) (q : ℕ) (left : List Sign) → Reads ops room place.most (signs ops style (At place) t o (s ∷ rest)) u q left → Exactly room (levels_of ops style (At place) t) t (s ∷ rest) u left
+  place_end : (place : TermPlace) (t : Tree) → AtHeld t → (o : Option Word) (room : ℕ) (s : Sign) (rest : List Sign) → Ends s → (u : Tree) (q : ℕ) (left : List Sign) → Reads ops room place.most (signs ops style (At place) t o (s ∷ rest)) u q left → Exactly room (levels_of ops style (At place) t) t (s ∷ rest) u left
   place_end place t law o room s rest h u q left r =
       exactly (next_end ops place.most (cond (needs ops style place t) 0 (priority_of ops style t)) s rest h) (law place o room place.most (s ∷ rest) u q left (omega arith) (λ e. quiet_end ops style t s rest h) r)
 
@@ -206,7 +206,7 @@ module _ (ops : OpTable) (style : Style) where
   -- ---- a compound of one argument
 
   -- the right operand of an operator, before signs that the operator does not take
-  operand_held : IsSane ops → Uses style → (place : Place) → place.is_operand ≡ true → (t : Tree) → AtHeld t → (o : Option Word) (room : ℕ) (rest : List Sign) → called rest ≡ None → joined rest ≡ None → Stops ops place.most rest → (u : Tree) (q : ℕ) (left : List Sign) → Reads ops room place.most (signs ops style (At place) t o rest) u q left → Exactly room (levels_of ops style (At place) t) t rest u left
+  operand_held : IsSane ops → Uses style → (place : TermPlace) → place.is_operand ≡ true → (t : Tree) → AtHeld t → (o : Option Word) (room : ℕ) (rest : List Sign) → called rest ≡ None → joined rest ≡ None → Stops ops place.most rest → (u : Tree) (q : ℕ) (left : List Sign) → Reads ops room place.most (signs ops style (At place) t o rest) u q left → Exactly room (levels_of ops style (At place) t) t rest u left
   operand_held s uses place e t law o room rest c j k u q left r =
       exactly (k (cond (needs ops style place t) 0 (priority_of ops style t)) (placed_priority ops style place t (needs ops style place t) (under ops style place t)))
       (law place o room place.most rest u q left (omega arith) (λ h. (c, j, calm_operand ops style s uses place e t h rest k)) r)
@@ -236,7 +236,7 @@ module _ (ops : OpTable) (style : Style) where
   one_argument : (a : Tree) → AtHeld a → (room : ℕ) (rest : List Sign) (found : Trees) (left : List Sign) → Arguments ops room (signs ops style (At argument) a (after marks.Open) (tok.Close ∷ rest)) found left → ExactlyAll room (levels_of ops style (At argument) a) (more a none) rest found left
   one_argument a law room rest found left h = last_argument a law (after marks.Open) room rest found left h
 
-  alone_held : IsSane ops → (s : List ℕ) (a : Tree) → AtHeld a → (f : Alone) → AloneIs ops style s f → SaneOp (alone_op f) → (place : Place) → Held (compound s (more a none)) (op_priority (alone_op f)) (op_needs place (alone_op f)) (OpQuiet ops style (alone_op f)) (λ o rest. alone_signs style (At place) s f (λ p q ws. signs ops style p a q ws) o rest) (alone_levels (At place) f (λ p. levels_of ops style p a)) place.most
+  alone_held : IsSane ops → (s : List ℕ) (a : Tree) → AtHeld a → (f : Alone) → AloneIs ops style s f → SaneOp (alone_op f) → (place : TermPlace) → Held (compound s (more a none)) (op_priority (alone_op f)) (op_needs place (alone_op f)) (OpQuiet ops style (alone_op f)) (λ o rest. alone_signs style (At place) s f (λ p q ws. signs ops style p a q ws) o rest) (alone_levels (At place) f (λ p. levels_of ops style p a)) place.most
   alone_held w s a law (alone.Letter n) h k place = call_held s _ (more a none) (λ rest. signs ops style (At argument) a (after marks.Open) (tok.Close ∷ rest)) (levels_of ops style (At argument) a) place.most _ (one_argument a law)
   alone_held w s a law alone.Functional h k place = call_held s _ (more a none) (λ rest. signs ops style (At argument) a (after marks.Open) (tok.Close ∷ rest)) (levels_of ops style (At argument) a) place.most _ (one_argument a law)
   alone_held w s a law alone.Curly h k place = curly_held s a place.most _ law h
@@ -309,7 +309,7 @@ module _ (ops : OpTable) (style : Style) where
   two_arguments w a b law other room rest found left h =
       comma_argument w a law (more b none) (levels_of ops style (At argument) b) (after marks.Open) room (signs ops style (At argument) b (after marks.Comma) (tok.Close ∷ rest)) rest (λ f l k. last_argument b other (after marks.Comma) room rest f l k) found left h
 
-  pair_held : IsSane ops → (s : List ℕ) (a b : Tree) → AtHeld a → AtHeld b → TailHeld b → (f : Pair) → PairIs ops style s f → SaneOp (pair_op f) → (place : Place) → Held (compound s (more a (more b none))) (op_priority (pair_op f)) (op_needs place (pair_op f)) (OpQuiet ops style (pair_op f)) (λ o rest. pair_signs style (At place) s f (λ p q ws. signs ops style p a q ws) (λ p q ws. signs ops style p b q ws) o rest) (pair_levels (At place) f (λ p. levels_of ops style p a) (λ p. levels_of ops style p b)) place.most
+  pair_held : IsSane ops → (s : List ℕ) (a b : Tree) → AtHeld a → AtHeld b → TailHeld b → (f : Pair) → PairIs ops style s f → SaneOp (pair_op f) → (place : TermPlace) → Held (compound s (more a (more b none))) (op_priority (pair_op f)) (op_needs place (pair_op f)) (OpQuiet ops style (pair_op f)) (λ o rest. pair_signs style (At place) s f (λ p q ws. signs ops style p a q ws) (λ p q ws. signs ops style p b q ws) o rest) (pair_levels (At place) f (λ p. levels_of ops style p a) (λ p. levels_of ops style p b)) place.most
   pair_held w s a b law other tail pair.List h k place = list_held w s a b place.most (OpQuiet ops style None) law tail h
   pair_held w s a b law other tail pair.Functional h k place =
       call_held s _ (more a (more b none)) (λ rest. signs ops style (At argument) a (after marks.Open) (tok.Comma ∷ signs ops style (At argument) b (after marks.Comma) (tok.Close ∷ rest))) (max (levels_of ops style (At argument) a) (levels_of ops style (At argument) b)) place.most (OpQuiet ops style None) (two_arguments w a b law other)
@@ -347,7 +347,7 @@ module _ (ops : OpTable) (style : Style) where
   atom_inner : (s : List ℕ) → InnerHeld (atom s) 0 (Quiet ops style (atom s)) (λ p ws. atom_signs s ws) 0
   atom_inner s = λ o room most rest u q left h quiet r. let g = begun (Stands (atom s) rest) (start_atom ops most s rest quiet.0 quiet.1 quiet.2) r in record { enough = omega arith; onward = from_leaf g.t g.p g.mid g.first g.onward }
 
-  atom_placed : (s : List ℕ) (place : Place) → Held (atom s) 0 (is_bracketed_atom ops style place s) (Quiet ops style (atom s)) (bracketed (is_bracketed_atom ops style place s) (λ p ws. atom_signs s ws)) (bracketed_levels (is_bracketed_atom ops style place s) 0) place.most
+  atom_placed : (s : List ℕ) (place : TermPlace) → Held (atom s) 0 (is_bracketed_atom ops style place s) (Quiet ops style (atom s)) (bracketed (is_bracketed_atom ops style place s) (λ p ws. atom_signs s ws)) (bracketed_levels (is_bracketed_atom ops style place s) 0) place.most
   atom_placed s place = bracket_held (atom s) 0 (is_bracketed_atom ops style place s) (Quiet ops style (atom s)) (λ p ws. atom_signs s ws) 0 place.most (omega arith) (λ e. omega arith) (λ rest. quiet_end ops style (atom s) tok.Close rest tt) (atom_inner s)
 
   atom_held : (s : List ℕ) → AtHeld (atom s)

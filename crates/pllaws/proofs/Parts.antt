@@ -12,7 +12,7 @@ use Rattle.pllex.specs.declared.token.Class.TheVariants.{Alphanumeric, Symbol}
 use Rattle.pllex.specs.declared.token.Kind.{Kind}
 use Rattle.pllex.specs.declared.token.Kind.TheVariants as kinds
 use Rattle.pllex.specs.declared.token.Token.{Token}
-use Rattle.pllex.specs.declared.token.Item.TheVariants as items
+use Rattle.pllex.specs.declared.token.Scanned.TheVariants as items
 use Rattle.pllex.specs.declared.quoted.Quote.TheVariants.{Single}
 use Rattle.pllex.specs.declared.layout.After.TheVariants.{Ends}
 use Rattle.pllex.specs.declared.quoted.Within.TheVariants.{Inside}

@@ -4,7 +4,7 @@ use Rattle.std.specs.Prelude.{if◌then◌else◌, nat_eq}
 use Rattle.std.specs.List.{starts_with}
 use Rattle.std.proofs.lemmas.Bool.{ne_eqb}
 use Rattle.pllex.specs.declared.token.Token.{Token}
-use Rattle.pllex.specs.declared.token.Item.TheVariants as items
+use Rattle.pllex.specs.declared.token.Scanned.TheVariants as items
 use Rattle.pllex.specs.declared.layout.Mode.TheVariants as modes
 use Rattle.pllex.specs.Tokens.{gap, item_at, after_gap, item_behind, next_item, IsClause, IsOver}
 use Rattle.pllex.proofs.Names.{rest_is}

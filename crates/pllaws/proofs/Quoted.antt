@@ -16,8 +16,8 @@ use Rattle.pllex.specs.declared.escape.AfterEscape.TheVariants as afters
 use Rattle.pllex.specs.declared.quoted.Quote.TheVariants.{Single}
 use Rattle.pllex.specs.declared.quoted.Within.{Within}
 use Rattle.pllex.specs.declared.quoted.Within.TheVariants.{Inside, Escaped}
-use Rattle.pllex.specs.declared.quoted.Turn.{Turn}
-use Rattle.pllex.specs.declared.quoted.Turn.TheVariants as turns
+use Rattle.pllex.specs.declared.quoted.QuotedStep.{QuotedStep}
+use Rattle.pllex.specs.declared.quoted.QuotedStep.TheVariants as turns
 use Rattle.pllex.specs.declared.quoted.Onward.TheVariants as onwards
 use Rattle.pllex.specs.declared.quoted.Quoted.TheVariants as ends
 use Rattle.pllex.specs.Characters.{begins_with, width, is_character, rest_of_character}
@@ -34,12 +34,12 @@ pub record Goes (start : ℕ) (mode next : Within) (count more place end : ℕ) 
   pub scan : lex.quoted Single start mode count place bytes ≡ lex.quoted Single start next more end rest
   pub tells : quoted_value Single start mode place bytes ≡ value ++ quoted_value Single start next end rest
 
-scan-cons : (start : ℕ) (mode : Within) (count place b : ℕ) (bytes : List ℕ) (t : Turn) → quoted_turn Single start mode place b bytes ≡ t →
+scan-cons : (start : ℕ) (mode : Within) (count place b : ℕ) (bytes : List ℕ) (t : QuotedStep) → quoted_turn Single start mode place b bytes ≡ t →
     lex.quoted Single start mode count place (b ∷ bytes) ≡ quoted_goes_on (λ next more. lex.quoted Single start next more (place + 1) bytes) (counted_turn Single start count place t)
 unfolding lex.quoted
 scan-cons start mode count place b bytes t e = ap (λ u. quoted_goes_on (λ next more. lex.quoted Single start next more (place + 1) bytes) (counted_turn Single start count place u)) e
 
-value-cons : (start : ℕ) (mode : Within) (place b : ℕ) (bytes : List ℕ) (t : Turn) → quoted_turn Single start mode place b bytes ≡ t →
+value-cons : (start : ℕ) (mode : Within) (place b : ℕ) (bytes : List ℕ) (t : QuotedStep) → quoted_turn Single start mode place b bytes ≡ t →
     quoted_value Single start mode place (b ∷ bytes) ≡ value_step (b ∷ bytes) t ++ value_goes_on (λ next. quoted_value Single start next (place + 1) bytes) (next_mode t)
 unfolding quoted_value
 value-cons start mode place b bytes t e = ap (λ u. value_step (b ∷ bytes) u ++ value_goes_on (λ next. quoted_value Single start next (place + 1) bytes) (next_mode u)) e
@@ -95,7 +95,7 @@ abbrev spells : Escape → ℕ → List ℕ → Bool
 spells escape c [] = false
 spells escape c (b ∷ bytes) = not (b == 10) && spells_on (λ next. spells next c bytes) c bytes (escape_turn escape b)
 
-not_line : (b : Bool) (x y : Turn) → not b ≡ true → cond b x y ≡ y
+not_line : (b : Bool) (x y : QuotedStep) → not b ≡ true → cond b x y ≡ y
 not_line true x y e = absurd cc
 not_line false x y e = refl
 

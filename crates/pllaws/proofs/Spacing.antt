@@ -9,7 +9,7 @@ use Rattle.pllex.specs.declared.token.Base.TheVariants.{Decimal}
 use Rattle.pllex.specs.declared.token.Class.TheVariants.{Digit}
 use Rattle.pllex.specs.declared.token.Token.{Token}
 use Rattle.pllex.specs.declared.token.Kind.TheVariants as kinds
-use Rattle.pllex.specs.declared.token.Item.TheVariants as items
+use Rattle.pllex.specs.declared.token.Scanned.TheVariants as items
 use Rattle.pllex.specs.Classes.{is_layout, is_digit}
 use Rattle.pllex.specs.Named.{value_of}
 use Rattle.pllex.specs.Tokens.{begins_in, ends_here, token, item_of, next_item}

@@ -106,7 +106,7 @@ module _ (quotes : Quotes) (all : List ℕ) where
 
   -- ---- a word's tokens have the signs that it tells
 
-  record Says (before : Option Word) (first : ℕ) (p : Piece) (front : List Sign) : Type 0 where
+  record SpeaksAs (before : Option Word) (first : ℕ) (p : Piece) (front : List Sign) : Type 0 where
     signs : (seen : Names) → parts_signs seen (is_direct before first) (parts p) ≡ all_numbered seen front
     then : (seen : Names) → parts_seen seen (parts p) ≡ all_seen seen front
 
@@ -165,7 +165,7 @@ module _ (quotes : Quotes) (all : List ℕ) where
   open_seen true seen = refl
   open_seen false seen = refl
 
-  word_says : (style : Style) (before : Option Word) (p : Piece) (front : List Sign) → Tells before p front → Says before (first_byte (word style p).text) p front
+  word_says : (style : Style) (before : Option Word) (p : Piece) (front : List Sign) → Tells before p front → SpeaksAs before (first_byte (word style p).text) p front
   unfolding all_seen
   word_says style before p front (tells_variable n) = record { signs = λ seen. refl; then = λ seen. refl }
   word_says style before p front (tells_integer (pos n)) = record { signs = λ seen. refl; then = λ seen. refl }

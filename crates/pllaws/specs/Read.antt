@@ -3,7 +3,7 @@ use Rattle.std.specs.Prelude.{◌≡◌, ℕ, List, [], ◌∷◌, ◌++◌, dro
 use Rattle.plterm.specs.Characters.{is_symbol}
 use Rattle.pllex.specs.declared.token.Token.{Token}
 use Rattle.pllex.specs.Named.{value_of}
-use Rattle.pllex.specs.Tokens.{is_fraction, ends_here, Run, IsClause}
+use Rattle.pllex.specs.Tokens.{is_fraction, ends_here, TokensBetween, IsClause}
 use Rattle.plwrite.specs.declared.style.Style.{Style}
 use Rattle.plwrite.specs.declared.text.Edge.{Edge}
 use Rattle.plwrite.specs.Words.{first_byte, last_byte, edge_of, touches}
@@ -29,7 +29,7 @@ pub record Stands (style : Style) (ps : List Piece) (whole : List ℕ) (from : �
 
 -- tokens stand one behind the other from a place to another, and their values
 pub record Told (whole : List ℕ) (from : ℕ) (ts : List Token) (stop : ℕ) (vs : List (List ℕ)) : Type 0 where
-  pub run : Run whole from ts stop
+  pub run : TokensBetween whole from ts stop
   pub are : map (value_of whole) ts ≡ vs
 
 -- the tokens of a clause of a text, and their values but for that of its end

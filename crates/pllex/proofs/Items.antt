@@ -17,8 +17,8 @@ use Rattle.pllex.specs.declared.quoted.Quote.{Quote}
 use Rattle.pllex.specs.declared.quoted.Quote.TheVariants.{Single, Double}
 use Rattle.pllex.specs.declared.quoted.Within.{Within}
 use Rattle.pllex.specs.declared.quoted.Within.TheVariants as modes
-use Rattle.pllex.specs.declared.quoted.Turn.{Turn}
-use Rattle.pllex.specs.declared.quoted.Turn.TheVariants as turns
+use Rattle.pllex.specs.declared.quoted.QuotedStep.{QuotedStep}
+use Rattle.pllex.specs.declared.quoted.QuotedStep.TheVariants as turns
 use Rattle.pllex.specs.declared.quoted.Onward.{Onward}
 use Rattle.pllex.specs.declared.quoted.Onward.TheVariants as onwards
 use Rattle.pllex.specs.declared.quoted.Quoted.{Quoted}
@@ -40,7 +40,7 @@ bounded_at : (quote : Quote) (start count more place : ℕ) (next : Within) → 
 bounded_at quote start count more place next =
     cond_both (leb (counted quote count more) 65535) (onwards.Goes next (counted quote count more)) (onwards.Ends (ends.Bad faults.NameTooLong start)) (EndsAt place) (λ _. tt) (λ _. tt)
 
-ends_at : (quote : Quote) (start count place : ℕ) (t : Turn) → EndsAt place (counted_turn quote start count place t)
+ends_at : (quote : Quote) (start count place : ℕ) (t : QuotedStep) → EndsAt place (counted_turn quote start count place t)
 ends_at quote start count place (turns.Goes next) = tt
 ends_at quote start count place (turns.Adds next c) = bounded_at quote start count (len_utf8 c) place next
 ends_at quote start count place (turns.Keeps rest) = bounded_at quote start count (suc rest) place (modes.Inside rest)
@@ -69,7 +69,7 @@ few_bounded start count more len place end next rest value f le =
     (λ t h. omega (arith, f (count + more) (leb-true (count + more) 65535 t) h))
     (λ _ h. absurd cc)
 
-few_by : (start count place end : ℕ) (bytes : List ℕ) (t : Turn) (rest : Within → ℕ → Quoted) (value : Within → List ℕ) → ((next : Within) (n : ℕ) → n ≤ 65535 → rest next n ≡ ends.Closed end → n + length (value next) ≤ 65535) → count ≤ 65535 →
+few_by : (start count place end : ℕ) (bytes : List ℕ) (t : QuotedStep) (rest : Within → ℕ → Quoted) (value : Within → List ℕ) → ((next : Within) (n : ℕ) → n ≤ 65535 → rest next n ≡ ends.Closed end → n + length (value next) ≤ 65535) → count ≤ 65535 →
     quoted_goes_on rest (counted_turn Single start count place t) ≡ ends.Closed end → count + length (value_step bytes t ++ value_goes_on value (next_mode t)) ≤ 65535
 few_by start count place end bytes (turns.Goes next) rest value f le h = f next count le h
 few_by start count place end bytes (turns.Adds next c) rest value f le h =
@@ -148,7 +148,7 @@ bare_step place b bytes (Some rest) f = subst (λ n. IsUtf8 (take n (b ∷ bytes
 
 plain_step : (quote : Quote) (start place b : ℕ) (bytes : List ℕ) → IsUtf8 (value_step (b ∷ bytes) (plain_turn quote start place b bytes))
 plain_step quote start place b bytes =
-    let P : Turn → Type 0 = λ t. IsUtf8 (value_step (b ∷ bytes) t) in
+    let P : QuotedStep → Type 0 = λ t. IsUtf8 (value_step (b ∷ bytes) t) in
     cond_both (b == mark quote) _ _ P
     (λ t. cond_both (begins_with (mark quote) bytes) (turns.Adds modes.Twin b) turns.Closes P (λ _. IsUtf8-encode b (subst (λ x. is_scalar x ≡ true) (sym (eqb-true b (mark quote) t)) (mark_scalar quote))) (λ _. IsUtf8-nil))
     (λ _. cond_both (b == 92) _ _ P (λ _. IsUtf8-nil)

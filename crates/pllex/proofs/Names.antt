@@ -21,15 +21,15 @@ use Rattle.pllex.specs.declared.quoted.Quoted.{Quoted}
 use Rattle.pllex.specs.declared.quoted.Quoted.TheVariants as ends
 use Rattle.pllex.specs.declared.token.Kind.{Kind}
 use Rattle.pllex.specs.declared.token.Kind.TheVariants as kinds
-use Rattle.pllex.specs.declared.token.Item.{Item}
-use Rattle.pllex.specs.declared.token.Item.TheVariants as items
+use Rattle.pllex.specs.declared.token.Scanned.{Scanned}
+use Rattle.pllex.specs.declared.token.Scanned.TheVariants as items
 use Rattle.pllex.specs.declared.token.Fault.{Fault}
 use Rattle.pllex.specs.declared.token.Fault.TheVariants as faults
 use Rattle.pllex.specs.declared.layout.Gap.{Gap}
 use Rattle.pllex.specs.declared.layout.Gap.TheVariants as gaps
 use Rattle.pllex.specs.Classes.{in_class, is_digit, is_control}
 use Rattle.pllex.specs.Quoted.{quoted, quoted_value}
-use Rattle.pllex.specs.Tokens.{run_end, token, named, symbols, number, value, stray, item_of, item_at, after_gap, item_behind, next_item, Run, IsClause, is_end}
+use Rattle.pllex.specs.Tokens.{run_end, token, named, symbols, number, value, stray, item_of, item_at, after_gap, item_behind, next_item, TokensBetween, IsClause, is_end}
 use Rattle.pllex.specs.Tokens as lex
 use Rattle.pllex.specs.Named.{IsWord, IsQuoted, IsNamedAs, AreNamed, value_within}
 use Rattle.pllex.proofs.RunEnds.{run_behind, drop_here}
@@ -72,7 +72,7 @@ run_ascii class place (b ∷ bytes) =
     (λ f. none_taken place (b ∷ bytes))
 
 -- if a token stands there, it is named
-record IsNamedItem (text : List ℕ) (item : Item) : Type 0 where
+record IsNamedItem (text : List ℕ) (item : Scanned) : Type 0 where
   named_as : (t : Token) → item ≡ items.Token t → IsNamedAs t.kind text t
 
 of_token : (text : List ℕ) (t : Token) → IsNamedAs t.kind text t → IsNamedItem text (items.Token t)
@@ -265,10 +265,10 @@ next_named text from = gap_named text _
 named_next : (text : List ℕ) (from : ℕ) (t : Token) → next_item text from ≡ items.Token t → IsNamedAs t.kind text t
 named_next text from t e = (next_named text from).named_as t e
 
-run_named : (text : List ℕ) (from : ℕ) (ts : List Token) (place : ℕ) (e : Token) → Run text from ts place → next_item text place ≡ items.Token e → AreNamed text (ts ++ e ∷ [])
+run_named : (text : List ℕ) (from : ℕ) (ts : List Token) (place : ℕ) (e : Token) → TokensBetween text from ts place → next_item text place ≡ items.Token e → AreNamed text (ts ++ e ∷ [])
 run_named text from [] place e r h = (named_next text place e h, tt)
 run_named text from (t ∷ ts) place e r h = (named_next text from t r.0, run_named text t.end ts place e r.2 h)
 
 -- the tokens of a run, and one behind them
-pub all_named : (text : List ℕ) (from : ℕ) (all ts : List Token) (place : ℕ) (e : Token) → Run text from ts place → next_item text place ≡ items.Token e → all ≡ ts ++ e ∷ [] → AreNamed text all
+pub all_named : (text : List ℕ) (from : ℕ) (all ts : List Token) (place : ℕ) (e : Token) → TokensBetween text from ts place → next_item text place ≡ items.Token e → all ≡ ts ++ e ∷ [] → AreNamed text all
 all_named text from all ts place e r h same = subst (AreNamed text) (sym same) (run_named text from ts place e r h)

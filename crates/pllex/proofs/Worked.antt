@@ -3,7 +3,7 @@ use Rattle.std.proofs.Common.{◌≡◌, ℕ, [], ◌∷◌, codes, refl, inl, i
 use Rattle.pllex.specs.declared.token.Token.{Token}
 use Rattle.pllex.specs.declared.token.Kind.{Kind}
 use Rattle.pllex.specs.declared.token.Kind.TheVariants.{Name, QuotedName, Variable, Integer, DoubleQuoted, Open, OpenSquare, CloseCurly, Bar, End}
-use Rattle.pllex.specs.declared.token.Item.TheVariants as items
+use Rattle.pllex.specs.declared.token.Scanned.TheVariants as items
 use Rattle.pllex.specs.declared.token.Fault.TheVariants.{BadCharacter, OpenQuoted, BadEscape, IntTooBig, FloatLiteral, OpenComment, NoEnd}
 use Rattle.std.specs.Char.{encode_utf8}
 use Rattle.std.specs.Str.{chars}

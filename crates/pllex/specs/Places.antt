@@ -1,11 +1,11 @@
 -- Places within a text.
 use Rattle.std.specs.Prelude.{◌≡◌, ℕ, ◌≤◌, ◌<◌, ◌+◌}
-use Rattle.pllex.specs.declared.token.Item.{Item}
-use Rattle.pllex.specs.declared.token.Item.TheVariants as items
+use Rattle.pllex.specs.declared.token.Scanned.{Scanned}
+use Rattle.pllex.specs.declared.token.Scanned.TheVariants as items
 use Rattle.pllex.specs.declared.escape.Coded.{Coded}
 use Rattle.pllex.specs.declared.escape.Coded.TheVariants as coded
-use Rattle.pllex.specs.declared.quoted.Turn.{Turn}
-use Rattle.pllex.specs.declared.quoted.Turn.TheVariants as turns
+use Rattle.pllex.specs.declared.quoted.QuotedStep.{QuotedStep}
+use Rattle.pllex.specs.declared.quoted.QuotedStep.TheVariants as turns
 use Rattle.pllex.specs.declared.quoted.Onward.{Onward}
 use Rattle.pllex.specs.declared.quoted.Onward.TheVariants as onwards
 use Rattle.pllex.specs.declared.quoted.Quoted.{Quoted}
@@ -19,7 +19,7 @@ IsWithin from len (gaps.Unclosed start) = Unit {0}
 IsWithin from len (gaps.Bad place) = Unit {0}
 
 -- a token that starts at a place and ends behind it, within the text
-abbrev pub Advances : ℕ → ℕ → Item → Type 0
+abbrev pub Advances : ℕ → ℕ → Scanned → Type 0
 Advances place len (items.Token t) = (place ≤ t.start) × (t.start < t.end) × (t.end ≤ len)
 Advances place len (items.Fault f at) = Unit {0}
 Advances place len items.Nothing = Unit {0}
@@ -30,7 +30,7 @@ IsCoded from len (coded.Character c end) = (from < end) × (end ≤ len)
 IsCoded from len coded.NoCharacter = Unit {0}
 
 -- a character has at most three further bytes
-abbrev pub KeepsFew : Turn → Type 0
+abbrev pub KeepsFew : QuotedStep → Type 0
 KeepsFew (turns.Goes next) = Unit {0}
 KeepsFew (turns.Adds next c) = Unit {0}
 KeepsFew (turns.Keeps rest) = rest ≤ 3
@@ -38,7 +38,7 @@ KeepsFew turns.Closes = Unit {0}
 KeepsFew (turns.Bad fault at) = Unit {0}
 
 -- and they lie within the text
-abbrev pub KeepsWithin : ℕ → ℕ → Turn → Type 0
+abbrev pub KeepsWithin : ℕ → ℕ → QuotedStep → Type 0
 KeepsWithin place len (turns.Goes next) = Unit {0}
 KeepsWithin place len (turns.Adds next c) = Unit {0}
 KeepsWithin place len (turns.Keeps rest) = place + rest + 1 ≤ len

@@ -10,8 +10,8 @@ use Rattle.pllex.specs.declared.quoted.Quote.{Quote}
 use Rattle.pllex.specs.declared.quoted.Quote.TheVariants.{Single, Double}
 use Rattle.pllex.specs.declared.quoted.Within.{Within}
 use Rattle.pllex.specs.declared.quoted.Within.TheVariants as modes
-use Rattle.pllex.specs.declared.quoted.Turn.{Turn}
-use Rattle.pllex.specs.declared.quoted.Turn.TheVariants as quoted_turns
+use Rattle.pllex.specs.declared.quoted.QuotedStep.{QuotedStep}
+use Rattle.pllex.specs.declared.quoted.QuotedStep.TheVariants as quoted_turns
 use Rattle.pllex.specs.declared.quoted.Onward.{Onward}
 use Rattle.pllex.specs.declared.quoted.Onward.TheVariants as onwards
 use Rattle.pllex.specs.declared.quoted.Quoted.{Quoted}
@@ -25,12 +25,12 @@ mark Single = 39
 mark Double = 34
 
 -- a character that stands for itself
-abbrev pub bare : ℕ → Option ℕ → Turn
+abbrev pub bare : ℕ → Option ℕ → QuotedStep
 bare place (Some rest) = quoted_turns.Keeps rest
 bare place None = quoted_turns.Bad faults.BadUtf8 place
 
 -- a character, an escape sequence, or a quote: two stand for one, and one alone closes the item
-abbrev pub plain_turn : Quote → ℕ → ℕ → ℕ → List ℕ → Turn
+abbrev pub plain_turn : Quote → ℕ → ℕ → ℕ → List ℕ → QuotedStep
 plain_turn quote start place b bytes =
     if b == mark quote then (if begins_with (mark quote) bytes then quoted_turns.Adds modes.Twin b else quoted_turns.Closes)
     else (if b == 92 then quoted_turns.Goes (modes.Escaped place escapes.Begins)
@@ -38,19 +38,19 @@ plain_turn quote start place b bytes =
     else (if is_control b then quoted_turns.Bad faults.BadCharacter place
     else bare place (rest_of_character b bytes))))
 
-abbrev pub of_escape : ℕ → AfterEscape → Turn
+abbrev pub of_escape : ℕ → AfterEscape → QuotedStep
 of_escape at (turns.Goes next) = quoted_turns.Goes (modes.Escaped at next)
 of_escape at (turns.Is c) = quoted_turns.Adds (modes.Inside 0) c
 of_escape at turns.Bad = quoted_turns.Bad faults.BadEscape at
 
 -- a newline behind a backslash stands for nothing; in a code it leaves the item open
-abbrev pub newline_turn : ℕ → Escape → Turn
+abbrev pub newline_turn : ℕ → Escape → QuotedStep
 newline_turn start escapes.Begins = quoted_turns.Goes (modes.Inside 0)
 newline_turn start escapes.BeforeDigits = quoted_turns.Bad faults.OpenQuoted start
 newline_turn start (escapes.Digits base code) = quoted_turns.Bad faults.OpenQuoted start
 
 -- what a byte at a place does in an item that starts at a place, before these bytes
-abbrev pub quoted_turn : Quote → ℕ → Within → ℕ → ℕ → List ℕ → Turn
+abbrev pub quoted_turn : Quote → ℕ → Within → ℕ → ℕ → List ℕ → QuotedStep
 quoted_turn quote start (modes.Inside zero) place b bytes = plain_turn quote start place b bytes
 quoted_turn quote start (modes.Inside (suc rest)) place b bytes = quoted_turns.Goes (modes.Inside rest)
 quoted_turn quote start modes.Twin place b bytes = quoted_turns.Goes (modes.Inside 0)
@@ -67,7 +67,7 @@ bounded quote start count more next =
     if nat_le (counted quote count more) 65535 then onwards.Goes next (counted quote count more)
     else onwards.Ends (ends.Bad faults.NameTooLong start)
 
-abbrev pub counted_turn : Quote → ℕ → ℕ → ℕ → Turn → Onward
+abbrev pub counted_turn : Quote → ℕ → ℕ → ℕ → QuotedStep → Onward
 counted_turn quote start count place (quoted_turns.Goes next) = onwards.Goes next count
 counted_turn quote start count place (quoted_turns.Adds next c) = bounded quote start count (len_utf8 c) next
 counted_turn quote start count place (quoted_turns.Keeps rest) = bounded quote start count (suc rest) (modes.Inside rest)
@@ -86,14 +86,14 @@ quoted quote start mode count place (b ∷ bytes) =
     quoted_goes_on (λ next more. quoted quote start next more (place + 1) bytes) (counted_turn quote start count place (quoted_turn quote start mode place b bytes))
 
 -- what a byte adds to the item's value: it is the first of these
-abbrev pub value_step : List ℕ → Turn → List ℕ
+abbrev pub value_step : List ℕ → QuotedStep → List ℕ
 value_step bytes (quoted_turns.Goes next) = []
 value_step bytes (quoted_turns.Adds next c) = encode_utf8 c
 value_step bytes (quoted_turns.Keeps rest) = take (rest + 1) bytes
 value_step bytes quoted_turns.Closes = []
 value_step bytes (quoted_turns.Bad fault at) = []
 
-abbrev pub next_mode : Turn → Option Within
+abbrev pub next_mode : QuotedStep → Option Within
 next_mode (quoted_turns.Goes next) = Some next
 next_mode (quoted_turns.Adds next c) = Some next
 next_mode (quoted_turns.Keeps rest) = Some (modes.Inside rest)

@@ -19,8 +19,8 @@ use Rattle.pllex.specs.declared.token.Kind.TheVariants as kinds
 use Rattle.pllex.specs.declared.token.Token.{Token}
 use Rattle.pllex.specs.declared.token.Fault.{Fault}
 use Rattle.pllex.specs.declared.token.Fault.TheVariants as faults
-use Rattle.pllex.specs.declared.token.Item.{Item}
-use Rattle.pllex.specs.declared.token.Item.TheVariants as items
+use Rattle.pllex.specs.declared.token.Scanned.{Scanned}
+use Rattle.pllex.specs.declared.token.Scanned.TheVariants as items
 use Rattle.pllex.specs.declared.layout.Mode.{Mode}
 use Rattle.pllex.specs.declared.layout.Mode.TheVariants as modes
 use Rattle.pllex.specs.declared.layout.After.{After}
@@ -88,11 +88,11 @@ unfoldable pub gap : Mode → ℕ → List ℕ → Gap
 gap mode place [] = gap_end mode place
 gap mode place (b ∷ bytes) = goes_on (λ next. gap next (place + 1) bytes) place (turn mode place b bytes)
 
-abbrev pub token : Kind → ℕ → ℕ → Item
+abbrev pub token : Kind → ℕ → ℕ → Scanned
 token kind start end = items.Token (record { kind = kind; start = start; end = end })
 
 -- a name or a variable has at most 65,535 bytes
-abbrev pub named : Kind → ℕ → ℕ → Item
+abbrev pub named : Kind → ℕ → ℕ → Scanned
 named kind start end = if nat_le (end - start) 65535 then token kind start end else items.Fault faults.NameTooLong start
 
 -- behind a full stop that stands alone: layout, a comment or the end of the text
@@ -101,7 +101,7 @@ ends_here [] = true
 ends_here (b ∷ bytes) = is_layout b || (b == 37)
 
 -- an end token, or a name of symbol characters
-abbrev pub symbols : ℕ → ℕ → ℕ → List ℕ → Item
+abbrev pub symbols : ℕ → ℕ → ℕ → List ℕ → Scanned
 symbols b place end bytes = if (b == 46) && ends_here bytes then token kinds.End place (place + 1) else named kinds.Name place end
 
 -- the value of digits of a base, behind those of a number
@@ -118,19 +118,19 @@ is_fraction (b ∷ bytes) = (b == 46) && begins_in (Digit Decimal) bytes
 abbrev pub in_range : ℕ → Option ℕ
 in_range n = if nat_le n 9223372036854775808 then Some n else None
 
-abbrev pub integer : Option ℕ → ℕ → ℕ → Item
+abbrev pub integer : Option ℕ → ℕ → ℕ → Scanned
 integer (Some n) start end = token (kinds.Integer n) start end
 integer None start end = items.Fault faults.IntTooBig start
 
 -- decimal digits from a place on: these bytes
-abbrev pub decimal : List ℕ → ℕ → List ℕ → Item
+abbrev pub decimal : List ℕ → ℕ → List ℕ → Scanned
 decimal text start digits =
     let end = run_end (Digit Decimal) start digits in
     if is_fraction (drop end text) then items.Fault faults.FloatLiteral start
     else integer (in_range (value Decimal 0 digits)) start end
 
 -- digits of a base behind two characters, as 0x: these bytes
-abbrev pub based : Base → ℕ → List ℕ → Item
+abbrev pub based : Base → ℕ → List ℕ → Scanned
 based base start digits = integer (in_range (value base 0 digits)) start (run_end (Digit base) (start + 2) digits)
 
 -- the base that a letter behind a 0 names
@@ -138,20 +138,20 @@ abbrev pub base_of : ℕ → Option Base
 base_of b = if b == 120 then Some Hexadecimal else (if b == 111 then Some Octal else (if b == 98 then Some Binary else None))
 
 -- behind 0 and a letter: digits of its base, or the letter begins another token
-abbrev pub after_letter : List ℕ → ℕ → List ℕ → List ℕ → Option Base → Item
+abbrev pub after_letter : List ℕ → ℕ → List ℕ → List ℕ → Option Base → Scanned
 after_letter text start digits bytes None = decimal text start digits
 after_letter text start digits bytes (Some base) = if begins_in (Digit base) bytes then based base start bytes else decimal text start digits
 
-abbrev pub of_coded : ℕ → ℕ → Coded → Item
+abbrev pub of_coded : ℕ → ℕ → Coded → Scanned
 of_coded start at (coded.Character c end) = token (kinds.Integer c) start end
 of_coded start at coded.NoCharacter = items.Fault faults.BadEscape at
 
-abbrev pub bare_code : ℕ → ℕ → List ℕ → Option ℕ → Item
+abbrev pub bare_code : ℕ → ℕ → List ℕ → Option ℕ → Scanned
 bare_code start b bytes (Some rest) = token (kinds.Integer (code_at (take (suc rest) (b ∷ bytes)))) start (start + 3 + rest)
 bare_code start b bytes None = items.Fault faults.BadUtf8 (start + 2)
 
 -- the code of a character behind 0 and a quote: two quotes or one, an escape sequence, or one that stands for itself
-abbrev pub character_code : ℕ → List ℕ → Item
+abbrev pub character_code : ℕ → List ℕ → Scanned
 character_code start [] = token (kinds.Integer 0) start (start + 1)
 character_code start (b ∷ bytes) =
     if b == 39 then token (kinds.Integer 39) start (if begins_with 39 bytes then start + 4 else start + 3)
@@ -160,20 +160,20 @@ character_code start (b ∷ bytes) =
     else bare_code start b bytes (rest_of_character b bytes)))
 
 -- a number that begins with 0, before these bytes
-abbrev pub zero_number : List ℕ → ℕ → List ℕ → Item
+abbrev pub zero_number : List ℕ → ℕ → List ℕ → Scanned
 zero_number text start [] = decimal text start (48 ∷ [])
 zero_number text start (b ∷ bytes) =
     if b == 39 then character_code start bytes
     else after_letter text start (48 ∷ b ∷ bytes) bytes (base_of b)
 
-abbrev pub number : List ℕ → ℕ → ℕ → List ℕ → Item
+abbrev pub number : List ℕ → ℕ → ℕ → List ℕ → Scanned
 number text start b bytes = if b == 48 then zero_number text start bytes else decimal text start (b ∷ bytes)
 
-abbrev pub of_quoted : Kind → ℕ → Quoted → Item
+abbrev pub of_quoted : Kind → ℕ → Quoted → Scanned
 of_quoted kind start (ends.Closed end) = token kind start end
 of_quoted kind start (ends.Bad fault at) = items.Fault fault at
 
-abbrev pub quoted_item : Quote → Kind → ℕ → List ℕ → Item
+abbrev pub quoted_item : Quote → Kind → ℕ → List ℕ → Scanned
 quoted_item quote kind start bytes = of_quoted kind start (quoted quote start (Inside 0) 0 (start + 1) bytes)
 
 -- ( ) [ ] { } , |
@@ -193,14 +193,14 @@ punctuation b =
 abbrev pub stray : ℕ → List ℕ → Fault
 stray b bytes = if is_some (rest_of_character b bytes) then faults.BadCharacter else faults.BadUtf8
 
-abbrev pub marked : ℕ → ℕ → List ℕ → Option Kind → Item
+abbrev pub marked : ℕ → ℕ → List ℕ → Option Kind → Scanned
 marked place b bytes (Some kind) = token kind place (place + 1)
 marked place b bytes None =
     if is_symbol b then symbols b place (run_end Symbol (place + 1) bytes) bytes
     else items.Fault (stray b bytes) place
 
 -- what begins with a byte at a place of the text, before these bytes
-unfoldable pub item_of : List ℕ → ℕ → ℕ → List ℕ → Item
+unfoldable pub item_of : List ℕ → ℕ → ℕ → List ℕ → Scanned
 item_of text place b bytes =
     if is_ascii_lowercase b then named kinds.Name place (run_end Alphanumeric (place + 1) bytes)
     else (if is_ascii_uppercase b || (b == 95) then named kinds.Variable place (run_end Alphanumeric (place + 1) bytes)
@@ -210,21 +210,21 @@ item_of text place b bytes =
     else (if (b == 33) || (b == 59) then token kinds.Name place (place + 1)
     else marked place b bytes (punctuation b))))))
 
-abbrev pub item_at : List ℕ → ℕ → List ℕ → Item
+abbrev pub item_at : List ℕ → ℕ → List ℕ → Scanned
 item_at text place [] = items.Nothing
 item_at text place (b ∷ bytes) = item_of text place b bytes
 
-abbrev pub after_gap : List ℕ → Gap → Item
+abbrev pub after_gap : List ℕ → Gap → Scanned
 after_gap text (gaps.Before place) = item_at text place (drop place text)
 after_gap text (gaps.Unclosed start) = items.Fault faults.OpenComment start
 after_gap text (gaps.Bad place) = items.Fault faults.BadUtf8 place
 
 -- the next token where layout begins at a place
-abbrev pub item_behind : List ℕ → ℕ → Item
+abbrev pub item_behind : List ℕ → ℕ → Scanned
 item_behind text place = after_gap text (gap modes.Between place (drop place text))
 
 -- the next token of the text from a place on, the fault, or the end of the text
-unfoldable pub next_item : List ℕ → ℕ → Item
+unfoldable pub next_item : List ℕ → ℕ → Scanned
 next_item text from = item_behind text (after_mark text from)
 
 abbrev pub is_end : Kind → Bool
@@ -244,14 +244,14 @@ is_end kinds.Bar = false
 is_end kinds.End = true
 
 -- the tokens, none an end, stand one behind the other between two places
-abbrev pub Run : List ℕ → ℕ → List Token → ℕ → Type 0
-Run text from [] place = from ≡ place
-Run text from (t ∷ ts) place = (next_item text from ≡ items.Token t) × (is_end t.kind ≡ false) × Run text t.end ts place
+abbrev pub TokensBetween : List ℕ → ℕ → List Token → ℕ → Type 0
+TokensBetween text from [] place = from ≡ place
+TokensBetween text from (t ∷ ts) place = (next_item text from ≡ items.Token t) × (is_end t.kind ≡ false) × TokensBetween text t.end ts place
 
 -- the tokens of a clause, the end token last, and the place behind it
 abbrev pub IsClause : List ℕ → ℕ → List Token → ℕ → Type 0
 IsClause text from ts after =
-    (front : List Token) × (end : Token) × (place : ℕ) × Run text from front place
+    (front : List Token) × (end : Token) × (place : ℕ) × TokensBetween text from front place
     × (next_item text place ≡ items.Token end) × (is_end end.kind ≡ true) × (ts ≡ front ++ end ∷ []) × (after ≡ end.end)
 
 -- the place of the first token
@@ -262,7 +262,7 @@ IsFirst (t ∷ ts) place = t.start ≡ place
 -- no end token is reached: a fault is met, or the text ends behind a token
 abbrev pub IsFault : List ℕ → ℕ → Fault → ℕ → Type 0
 IsFault text from fault place =
-    (front : List Token) × (stop : ℕ) × Run text from front stop
+    (front : List Token) × (stop : ℕ) × TokensBetween text from front stop
     × ((next_item text stop ≡ items.Fault fault place) ⊎ ((next_item text stop ≡ items.Nothing) × (fault ≡ faults.NoEnd) × IsFirst front place))
 
 -- only layout is left

@@ -1,6 +1,6 @@
 //! The tokens of the next clause.
 ghost use Rattle.std.specs.Prelude.{◌≡◌, ◌≤◌, ◌<◌, length, List, ℕ, IfOk, IfSome};
-ghost use Rattle.pllex.specs.Tokens.{item_behind, next_item, is_end, Run, IsClause, IsOver, IsFault};
+ghost use Rattle.pllex.specs.Tokens.{item_behind, next_item, is_end, TokensBetween, IsClause, IsOver, IsFault};
 ghost use Rattle.pllex.specs.Places.{Advances};
 ghost use Rattle.pllex.specs.Lexed.{Lexed};
 ghost use Rattle.pllex.specs.Named.{AreNamed};
@@ -11,24 +11,24 @@ use crate::characters::after_mark;
 use crate::error::{ClauseTokens, LexError};
 use crate::item::item_at;
 use crate::layout::{Gap, gap_at};
-use crate::token::{Fault, Item, Kind};
+use crate::token::{Fault, Scanned, Kind};
 use std::alloc::Global;
 
-fn item_behind(text: &[u8], place: usize) -> Item
+fn item_behind(text: &[u8], place: usize) -> Scanned
     requires { place ≤ length text.now }
     ensures value { result ≡ item_behind text.now place }
     ensures advances { Advances place (length text.now) result }
 {
     match gap_at(text, place) {
         Gap::Before(place) => item_at(text, place),
-        Gap::Unclosed(start) => Item::Fault(Fault::OpenComment, start),
-        Gap::Bad(place) => Item::Fault(Fault::BadUtf8, place),
+        Gap::Unclosed(start) => Scanned::Fault(Fault::OpenComment, start),
+        Gap::Bad(place) => Scanned::Fault(Fault::BadUtf8, place),
     }
 }
 
 /// The next token behind layout, a fault, or the end of the text.
 #[tactic(auto, unfolding(crate::specs::Tokens::next_item))]
-fn next_item(text: &[u8], from: usize) -> Item
+fn next_item(text: &[u8], from: usize) -> Scanned
     requires { from ≤ length text.now }
     ensures value { result ≡ next_item text.now from }
     ensures advances { Advances from (length text.now) result }
@@ -69,7 +69,7 @@ pub fn clause_tokens(
     let mut place = from;
     'tokens: loop {
         match next_item(text, place) {
-            Item::Token(token) => {
+            Scanned::Token(token) => {
                 tokens.push(token)?;
                 place = token.end;
                 if is_end(token.kind) {
@@ -79,8 +79,8 @@ pub fn clause_tokens(
                     }));
                 }
             }
-            Item::Fault(fault, at) => return Err(LexError::Bad(fault, at)),
-            Item::Nothing => {
+            Scanned::Fault(fault, at) => return Err(LexError::Bad(fault, at)),
+            Scanned::Nothing => {
                 return match tokens.first() {
                     None => Ok(None),
                     Some(token) => Err(LexError::Bad(Fault::NoEnd, token.start)),

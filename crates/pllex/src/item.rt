@@ -9,18 +9,18 @@ use crate::digits::is_digit;
 use crate::number::number;
 use crate::quoted::{Quote, Quoted, quoted_end};
 use crate::runs::{is_layout, run_end};
-use crate::token::{Base, Class, Fault, Item, Kind, Token};
+use crate::token::{Base, Class, Fault, Scanned, Kind, Token};
 use plterm::characters::is_symbol;
 
-fn named(kind: Kind, start: usize, end: usize) -> Item
+fn named(kind: Kind, start: usize, end: usize) -> Scanned
     requires { start < end }
     ensures value { result ≡ named kind start end }
     ensures advances { Advances start end result }
 {
     if end - start <= 65535 {
-        Item::Token(Token { kind, start, end })
+        Scanned::Token(Token { kind, start, end })
     } else {
-        Item::Fault(Fault::NameTooLong, start)
+        Scanned::Fault(Fault::NameTooLong, start)
     }
 }
 
@@ -32,7 +32,7 @@ fn ends_here(text: &[u8], place: usize) -> bool
     place >= text.len() || is_layout(text[place]) || text[place] == b'%'
 }
 
-fn symbols(text: &[u8], place: usize, end: usize) -> Item
+fn symbols(text: &[u8], place: usize, end: usize) -> Scanned
     requires place { place < end }
     requires within { end ≤ length text.now }
     ensures advances { Advances place end result }
@@ -40,7 +40,7 @@ fn symbols(text: &[u8], place: usize, end: usize) -> Item
         result ≡ symbols b place end (drop (place + 1) text.now) }
 {
     if text[place] == b'.' && ends_here(text, place + 1) {
-        Item::Token(Token {
+        Scanned::Token(Token {
             kind: Kind::End,
             start: place,
             end: place + 1,
@@ -50,12 +50,12 @@ fn symbols(text: &[u8], place: usize, end: usize) -> Item
     }
 }
 
-fn single(kind: Kind, place: usize) -> Item
+fn single(kind: Kind, place: usize) -> Scanned
     requires { place + 1 < 2 ^ 64 }
     ensures advances { Advances place (place + 1) result }
     ensures value { result ≡ token kind place (place + 1) }
 {
-    Item::Token(Token {
+    Scanned::Token(Token {
         kind,
         start: place,
         end: place + 1,
@@ -74,7 +74,7 @@ fn stray(text: &[u8], place: usize) -> Fault
 }
 
 /// A name or a variable of letters, digits and underscores.
-fn word(kind: Kind, text: &[u8], place: usize) -> Item
+fn word(kind: Kind, text: &[u8], place: usize) -> Scanned
     requires { place < length text.now }
     ensures advances { Advances place (length text.now) result }
     ensures value { result ≡ named kind place (run_end Alphanumeric (place + 1) (drop (place + 1) text.now)) }
@@ -99,7 +99,7 @@ fn punctuation(b: u8) -> Option<Kind>
 }
 
 /// A mark, a name of symbol characters, or no token.
-fn marked(text: &[u8], place: usize) -> Item
+fn marked(text: &[u8], place: usize) -> Scanned
     requires { place < length text.now }
     ensures advances { Advances place (length text.now) result }
     ensures value { let b = slice_index text.now place in
@@ -112,26 +112,26 @@ fn marked(text: &[u8], place: usize) -> Item
                 let end = run_end(text, place + 1, Class::Symbol);
                 symbols(text, place, end)
             } else {
-                Item::Fault(stray(text, place), place)
+                Scanned::Fault(stray(text, place), place)
             }
         }
     }
 }
 
 /// A quoted item.
-fn quoted_item(text: &[u8], start: usize, quote: Quote, kind: Kind) -> Item
+fn quoted_item(text: &[u8], start: usize, quote: Quote, kind: Kind) -> Scanned
     requires { start < length text.now }
     ensures advances { Advances start (length text.now) result }
     ensures value { result ≡ quoted_item quote kind start (drop (start + 1) text.now) }
 {
     match quoted_end(text, start, quote) {
-        Quoted::Closed(end) => Item::Token(Token { kind, start, end }),
-        Quoted::Bad(fault, at) => Item::Fault(fault, at),
+        Quoted::Closed(end) => Scanned::Token(Token { kind, start, end }),
+        Quoted::Bad(fault, at) => Scanned::Fault(fault, at),
     }
 }
 
 #[tactic(auto, unfolding(crate::specs::Tokens::item_of))]
-fn item_of(text: &[u8], place: usize) -> Item
+fn item_of(text: &[u8], place: usize) -> Scanned
     requires { place < length text.now }
     ensures advances { Advances place (length text.now) result }
     ensures value { let b = slice_index text.now place in
@@ -157,7 +157,7 @@ fn item_of(text: &[u8], place: usize) -> Item
 
 /// What stands at a place.
 #[tactic(auto, using(crate::proofs::RunEnds::drop_here, crate::proofs::RunEnds::drop_over))]
-pub fn item_at(text: &[u8], place: usize) -> Item
+pub fn item_at(text: &[u8], place: usize) -> Scanned
     requires { place ≤ length text.now }
     ensures value { result ≡ item_at text.now place (drop place text.now) }
     ensures advances { Advances place (length text.now) result }
@@ -165,6 +165,6 @@ pub fn item_at(text: &[u8], place: usize) -> Item
     if place < text.len() {
         item_of(text, place)
     } else {
-        Item::Nothing
+        Scanned::Nothing
     }
 }

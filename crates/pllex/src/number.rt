@@ -13,7 +13,7 @@ use crate::digits::{is_digit, value_of};
 use crate::escape::{Coded, escape_code};
 use crate::quoted::is_control;
 use crate::runs::run_end;
-use crate::token::{Base, Class, Fault, Item, Kind, Token};
+use crate::token::{Base, Class, Fault, Scanned, Kind, Token};
 
 #[tactic(auto, using(crate::proofs::RunEnds::drop_here, crate::proofs::RunEnds::drop_over))]
 fn begins_with_digit(text: &[u8], place: usize, base: Base) -> bool
@@ -31,23 +31,23 @@ fn is_fraction(text: &[u8], place: usize) -> bool
     place < text.len() && text[place] == b'.' && begins_with_digit(text, place + 1, Base::Decimal)
 }
 
-fn integer(value: Option<u64>, start: usize, end: usize) -> Item
+fn integer(value: Option<u64>, start: usize, end: usize) -> Scanned
     requires { start < end }
     ensures value { result ≡ integer value start end }
     ensures advances { Advances start end result }
 {
     match value {
-        Some(n) => Item::Token(Token {
+        Some(n) => Scanned::Token(Token {
             kind: Kind::Integer(n),
             start,
             end,
         }),
-        None => Item::Fault(Fault::IntTooBig, start),
+        None => Scanned::Fault(Fault::IntTooBig, start),
     }
 }
 
 /// Decimal digits.
-fn decimal(text: &[u8], start: usize) -> Item
+fn decimal(text: &[u8], start: usize) -> Scanned
     requires within { start < length text.now }
     requires digit { is_digit Decimal (slice_index text.now start) ≡ true }
     ensures value { result ≡ decimal text.now start (drop start text.now) }
@@ -55,14 +55,14 @@ fn decimal(text: &[u8], start: usize) -> Item
 {
     let end = run_end(text, start, Class::Digit(Base::Decimal));
     if is_fraction(text, end) {
-        Item::Fault(Fault::FloatLiteral, start)
+        Scanned::Fault(Fault::FloatLiteral, start)
     } else {
         integer(value_of(text, start, Base::Decimal), start, end)
     }
 }
 
 /// Digits of a base behind two characters.
-fn based(text: &[u8], start: usize, base: Base) -> Item
+fn based(text: &[u8], start: usize, base: Base) -> Scanned
     requires { start + 2 ≤ length text.now }
     ensures value { result ≡ based base start (drop (start + 2) text.now) }
     ensures advances { Advances start (length text.now) result }
@@ -83,12 +83,12 @@ fn base_of(b: u8) -> Option<Base>
     }
 }
 
-fn code(value: u64, start: usize, end: usize) -> Item
+fn code(value: u64, start: usize, end: usize) -> Scanned
     requires { start < end }
     ensures value { result ≡ token (Integer value) start end }
     ensures advances { Advances start end result }
 {
-    Item::Token(Token {
+    Scanned::Token(Token {
         kind: Kind::Integer(value),
         start,
         end,
@@ -96,7 +96,7 @@ fn code(value: u64, start: usize, end: usize) -> Item
 }
 
 /// The code of a character that stands for itself, behind 0 and a quote.
-fn bare_code(text: &[u8], start: usize) -> Item
+fn bare_code(text: &[u8], start: usize) -> Scanned
     requires { start + 2 < length text.now }
     ensures value { let b = slice_index text.now (start + 2) in let bytes = drop (start + 3) text.now in
         result ≡ bare_code start b bytes (rest_of_character b bytes) }
@@ -104,12 +104,12 @@ fn bare_code(text: &[u8], start: usize) -> Item
 {
     match rest_of_character(text, start + 2) {
         Some(rest) => code(code_at(text, start + 2, rest), start, start + 3 + rest),
-        None => Item::Fault(Fault::BadUtf8, start + 2),
+        None => Scanned::Fault(Fault::BadUtf8, start + 2),
     }
 }
 
 /// The code of a character behind 0 and a quote.
-fn character_code(text: &[u8], start: usize) -> Item
+fn character_code(text: &[u8], start: usize) -> Scanned
     requires { start + 2 ≤ length text.now }
     ensures value { result ≡ character_code start (drop (start + 2) text.now) }
     ensures advances { Advances start (length text.now) result }
@@ -124,17 +124,17 @@ fn character_code(text: &[u8], start: usize) -> Item
     } else if b == b'\\' {
         match escape_code(text, start + 3) {
             Coded::Character(c, end) => code(u64::from(u32::from(c)), start, end),
-            Coded::NoCharacter => Item::Fault(Fault::BadEscape, start + 2),
+            Coded::NoCharacter => Scanned::Fault(Fault::BadEscape, start + 2),
         }
     } else if b == b'\n' || is_control(b) {
-        Item::Fault(Fault::BadCharacter, start + 2)
+        Scanned::Fault(Fault::BadCharacter, start + 2)
     } else {
         bare_code(text, start)
     }
 }
 
 /// A number that begins with 0.
-fn zero_number(text: &[u8], start: usize) -> Item
+fn zero_number(text: &[u8], start: usize) -> Scanned
     requires within { start < length text.now }
     requires zero { slice_index text.now start ≡ 48 }
     ensures value { result ≡ zero_number text.now start (drop (start + 1) text.now) }
@@ -153,7 +153,7 @@ fn zero_number(text: &[u8], start: usize) -> Item
 }
 
 /// An integer.
-pub fn number(text: &[u8], start: usize) -> Item
+pub fn number(text: &[u8], start: usize) -> Scanned
     requires within { start < length text.now }
     requires digit { is_digit Decimal (slice_index text.now start) ≡ true }
     ensures value { result ≡ number text.now start (slice_index text.now start) (drop (start + 1) text.now) }

@@ -28,7 +28,7 @@ pub enum Within {
 /// What a byte of a quoted item does. The item goes on in a mode; a character is added to its value; the
 /// character that stands here, of so many further bytes, is kept; the item closes; a fault is met.
 #[derive(Clone, Copy)]
-pub enum Turn {
+pub enum QuotedStep {
     Goes(Within),
     Adds(Within, char),
     Keeps(usize),
@@ -66,7 +66,7 @@ pub fn is_control(b: u8) -> bool
     (b < 32 && b != b'\t' && b != b'\n') || b == 127
 }
 
-fn plain_turn(text: &[u8], place: usize, quote: Quote, start: usize) -> Turn
+fn plain_turn(text: &[u8], place: usize, quote: Quote, start: usize) -> QuotedStep
     requires { place < length text.now }
     ensures value { result ≡ plain_turn quote start place (slice_index text.now place) (drop (place + 1) text.now) }
     ensures few { KeepsFew result }
@@ -75,37 +75,37 @@ fn plain_turn(text: &[u8], place: usize, quote: Quote, start: usize) -> Turn
     let b = text[place];
     if b == mark(quote) {
         if begins_with(text, place + 1, mark(quote)) {
-            Turn::Adds(Within::Twin, char::from(b))
+            QuotedStep::Adds(Within::Twin, char::from(b))
         } else {
-            Turn::Closes
+            QuotedStep::Closes
         }
     } else if b == b'\\' {
-        Turn::Goes(Within::Escaped(place, Escape::Begins))
+        QuotedStep::Goes(Within::Escaped(place, Escape::Begins))
     } else if b == b'\n' {
-        Turn::Bad(Fault::OpenQuoted, start)
+        QuotedStep::Bad(Fault::OpenQuoted, start)
     } else if is_control(b) {
-        Turn::Bad(Fault::BadCharacter, place)
+        QuotedStep::Bad(Fault::BadCharacter, place)
     } else {
         match rest_of_character(text, place) {
-            Some(rest) => Turn::Keeps(rest),
-            None => Turn::Bad(Fault::BadUtf8, place),
+            Some(rest) => QuotedStep::Keeps(rest),
+            None => QuotedStep::Bad(Fault::BadUtf8, place),
         }
     }
 }
 
 /// A newline in an escape sequence.
-fn newline_turn(start: usize, escape: Escape) -> Turn
+fn newline_turn(start: usize, escape: Escape) -> QuotedStep
     ensures value { result ≡ newline_turn start escape }
     ensures few { KeepsFew result }
     ensures within { (place len : ℕ) → KeepsWithin place len result }
 {
     match escape {
-        Escape::Begins => Turn::Goes(Within::Inside(0)),
-        Escape::BeforeDigits | Escape::Digits(_, _) => Turn::Bad(Fault::OpenQuoted, start),
+        Escape::Begins => QuotedStep::Goes(Within::Inside(0)),
+        Escape::BeforeDigits | Escape::Digits(_, _) => QuotedStep::Bad(Fault::OpenQuoted, start),
     }
 }
 
-pub fn quoted_turn(text: &[u8], place: usize, quote: Quote, start: usize, mode: Within) -> Turn
+pub fn quoted_turn(text: &[u8], place: usize, quote: Quote, start: usize, mode: Within) -> QuotedStep
     requires { place < length text.now }
     ensures value { result ≡ quoted_turn quote start mode place (slice_index text.now place) (drop (place + 1) text.now) }
     ensures few { KeepsFew result }
@@ -116,19 +116,19 @@ pub fn quoted_turn(text: &[u8], place: usize, quote: Quote, start: usize, mode: 
             if rest == 0 {
                 plain_turn(text, place, quote, start)
             } else {
-                Turn::Goes(Within::Inside(rest - 1))
+                QuotedStep::Goes(Within::Inside(rest - 1))
             }
         }
-        Within::Twin => Turn::Goes(Within::Inside(0)),
+        Within::Twin => QuotedStep::Goes(Within::Inside(0)),
         Within::Escaped(at, escape) => {
             let b = text[place];
             if b == b'\n' {
                 return newline_turn(start, escape);
             }
             match escape_turn(escape, b) {
-                AfterEscape::Goes(next) => Turn::Goes(Within::Escaped(at, next)),
-                AfterEscape::Is(c) => Turn::Adds(Within::Inside(0), c),
-                AfterEscape::Bad => Turn::Bad(Fault::BadEscape, at),
+                AfterEscape::Goes(next) => QuotedStep::Goes(Within::Escaped(at, next)),
+                AfterEscape::Is(c) => QuotedStep::Adds(Within::Inside(0), c),
+                AfterEscape::Bad => QuotedStep::Bad(Fault::BadEscape, at),
             }
         }
     }
@@ -159,7 +159,7 @@ fn bounded(quote: Quote, start: usize, count: usize, more: usize, next: Within) 
     }
 }
 
-fn counted_turn(quote: Quote, start: usize, count: usize, place: usize, turn: Turn) -> Onward
+fn counted_turn(quote: Quote, start: usize, count: usize, place: usize, turn: QuotedStep) -> Onward
     requires count { count ≤ 65535 }
     requires place { place + 1 < 2 ^ 64 }
     requires few { KeepsFew turn }
@@ -168,11 +168,11 @@ fn counted_turn(quote: Quote, start: usize, count: usize, place: usize, turn: Tu
     ensures behind { EndsAt place result }
 {
     match turn {
-        Turn::Goes(next) => Onward::Goes(next, count),
-        Turn::Adds(next, c) => bounded(quote, start, count, c.len_utf8(), next),
-        Turn::Keeps(rest) => bounded(quote, start, count, rest + 1, Within::Inside(rest)),
-        Turn::Closes => Onward::Ends(Quoted::Closed(place + 1)),
-        Turn::Bad(fault, at) => Onward::Ends(Quoted::Bad(fault, at)),
+        QuotedStep::Goes(next) => Onward::Goes(next, count),
+        QuotedStep::Adds(next, c) => bounded(quote, start, count, c.len_utf8(), next),
+        QuotedStep::Keeps(rest) => bounded(quote, start, count, rest + 1, Within::Inside(rest)),
+        QuotedStep::Closes => Onward::Ends(Quoted::Closed(place + 1)),
+        QuotedStep::Bad(fault, at) => Onward::Ends(Quoted::Bad(fault, at)),
     }
 }
 

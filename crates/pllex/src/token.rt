@@ -53,7 +53,7 @@ pub enum Fault {
 
 /// What stands at a place: a token, a fault with its place, or the end of the text.
 #[derive(Clone, Copy, Debug, PartialEq, Eq)]
-pub enum Item {
+pub enum Scanned {
     Token(Token),
     Fault(Fault, usize),
     Nothing,

@@ -5,7 +5,7 @@ ghost use Rattle.pllex.specs.Named.{bytes_of, value_within, value_of, IsNamedAs,
 ghost use Rattle.pllex.specs.Quoted.{value_step, next_mode};
 ghost use Rattle.pllex.specs.Places.{KeepsWithin};
 
-use crate::quoted::{Quote, Turn, Within, quoted_turn};
+use crate::quoted::{Quote, QuotedStep, Within, quoted_turn};
 use crate::token::{Kind, Token};
 use std::alloc::{AllocError, Global};
 
@@ -18,26 +18,26 @@ fn push_character(value: &mut Vec<u8>, c: char) -> Result<(), AllocError>
 }
 
 /// Adds what a byte of a quoted item adds to its value.
-fn push_turn(value: &mut Vec<u8>, text: &[u8], place: usize, turn: Turn) -> Result<(), AllocError>
+fn push_turn(value: &mut Vec<u8>, text: &[u8], place: usize, turn: QuotedStep) -> Result<(), AllocError>
     requires place { place < length text.now }
     requires within { KeepsWithin place (length text.now) turn }
     ensures { OnOk result (value.new.items ≡ value.old.items ++ value_step (drop place text.now) turn) }
 {
     match turn {
-        Turn::Adds(_, c) => push_character(value, c),
-        Turn::Keeps(rest) => value.extend_from_slice(&text[place..place + rest + 1]),
-        Turn::Goes(_) | Turn::Closes | Turn::Bad(_, _) => Ok(()),
+        QuotedStep::Adds(_, c) => push_character(value, c),
+        QuotedStep::Keeps(rest) => value.extend_from_slice(&text[place..place + rest + 1]),
+        QuotedStep::Goes(_) | QuotedStep::Closes | QuotedStep::Bad(_, _) => Ok(()),
     }
 }
 
 /// The mode in which an item goes on, if it does.
-fn next_mode(turn: Turn) -> Option<Within>
+fn next_mode(turn: QuotedStep) -> Option<Within>
     ensures { result ≡ next_mode turn }
 {
     match turn {
-        Turn::Goes(next) | Turn::Adds(next, _) => Some(next),
-        Turn::Keeps(rest) => Some(Within::Inside(rest)),
-        Turn::Closes | Turn::Bad(_, _) => None,
+        QuotedStep::Goes(next) | QuotedStep::Adds(next, _) => Some(next),
+        QuotedStep::Keeps(rest) => Some(Within::Inside(rest)),
+        QuotedStep::Closes | QuotedStep::Bad(_, _) => None,
     }
 }
 

@@ -3,32 +3,32 @@ use Rattle.std.proofs.Common.{◌≡◌, ℕ, zero, suc, ◌+◌, ◌<◌, ◌�
 use Rattle.std.specs.List.{fold}
 use Rattle.std.proofs.lemmas.List.{get_or_append_left, get_or_push, get_or-take, take-append-drop}
 use Rattle.std.proofs.Math.Nat.{eq-or-lt_of_le, le-max_left, le-max_right}
-use Rattle.pllinks.specs.declared.item.Item.{Item}
+use Rattle.pllinks.specs.declared.item.Portion.{Portion}
 use Rattle.pllinks.specs.declared.link.Link.{Link}
 use Rattle.pllinks.specs.Links.{added, lists_of, list_at, link_at, slots_in, slots_at, link_to, IsLink, IsChain}
 
 slots_for : Link → ℕ
 slots_for l = l.slots
 
-fold-append : (start : List (List Item)) (links : List Link) (l : Link) → fold added start (links ++ l ∷ []) ≡ added (fold added start links) l
+fold-append : (start : List (List Portion)) (links : List Link) (l : Link) → fold added start (links ++ l ∷ []) ≡ added (fold added start links) l
 fold-append start [] l = refl
 fold-append start (x ∷ xs) l = fold-append (added start x) xs l
 
-fold-length : (start : List (List Item)) (links : List Link) → length (fold added start links) ≡ length start + length links
+fold-length : (start : List (List Portion)) (links : List Link) → length (fold added start links) ≡ length start + length links
 fold-length start [] = omega arith
 fold-length start (l ∷ ls) = fold-length (added start l) ls ∙ omega (arith, length-append start ((l.item ∷ get_or start l.next []) ∷ []))
 
-record Extends (start all : List (List Item)) : Type 0 where
-  more : List (List Item)
+record Extends (start all : List (List Portion)) : Type 0 where
+  more : List (List Portion)
   is : all ≡ start ++ more
 
-extends : (start : List (List Item)) (links : List Link) → Extends start (fold added start links)
+extends : (start : List (List Portion)) (links : List Link) → Extends start (fold added start links)
 extends start [] = record { more = []; is = sym (append-nil start) }
 extends start (l ∷ ls) =
     let r = extends (added start l) ls in
     record { more = (l.item ∷ get_or start l.next []) ∷ r.more; is = r.is ∙ append_assoc start ((l.item ∷ get_or start l.next []) ∷ []) r.more }
 
-fold-both : (start : List (List Item)) (xs ys : List Link) → fold added start (xs ++ ys) ≡ fold added (fold added start xs) ys
+fold-both : (start : List (List Portion)) (xs ys : List Link) → fold added start (xs ++ ys) ≡ fold added (fold added start xs) ys
 fold-both start [] ys = refl
 fold-both start (x ∷ xs) ys = fold-both (added start x) xs ys
 
@@ -80,7 +80,7 @@ slots_at-take links n (suc i) le = ap slots_for (get_or-take n links i (link_at 
 pub chain-none : IsChain []
 chain-none i lt = absurd (omega arith)
 
-pub chain-push : (links : List Link) (item : Item) (rest : ℕ) → IsChain links → rest ≤ length links → IsChain (links ++ link_to links item rest ∷ [])
+pub chain-push : (links : List Link) (item : Portion) (rest : ℕ) → IsChain links → rest ≤ length links → IsChain (links ++ link_to links item rest ∷ [])
 chain-push links item rest chain le i lt = go (eq-or-lt_of_le (omega (arith, lt, length-append links (l ∷ []))))
   where
     l : Link

@@ -6,7 +6,7 @@ use Rattle.plcells.specs.Store.{IsValue, value}
 use Rattle.plsearch.specs.Lists.{bind_goals}
 use Rattle.plenv.specs.Env.{Env, variable}
 use Rattle.plenv.specs.Changes.{Substitutes}
-use Rattle.pllinks.specs.declared.item.Item.{Item}
+use Rattle.pllinks.specs.declared.item.Portion.{Portion}
 use Rattle.pllinks.specs.Lists.{Goals, all_elements, AreItems}
 
 -- values, and the first n slots, stand for the same
@@ -16,10 +16,10 @@ pub record Agrees (n : ℕ) (old new : Env) : Type 0 where
 
 -- lists that ask for no more slots are lists still, and stand for the same
 abbrev pub ListsAgree : Type 0
-ListsAgree = (code : Goals) (n : ℕ) (old new : Env) (xs : List Item) → Agrees n old new → AreItems code old.heap n xs
+ListsAgree = (code : Goals) (n : ℕ) (old new : Env) (xs : List Portion) → Agrees n old new → AreItems code old.heap n xs
     → AreItems code new.heap n xs × (all_elements code new xs ≡ all_elements code old xs)
 
 -- what is put for variables is put into each list
 abbrev pub ListsSubstitute : Type 0
-ListsSubstitute = (code : Goals) (old new : Env) (σ : ℕ → Tree) (xs : List Item) → Substitutes old new σ → AreItems code old.heap (length old.slots) xs
+ListsSubstitute = (code : Goals) (old new : Env) (σ : ℕ → Tree) (xs : List Portion) → Substitutes old new σ → AreItems code old.heap (length old.slots) xs
     → AreItems code new.heap (length new.slots) xs × (all_elements code new xs ≡ bind_goals σ (all_elements code old xs))

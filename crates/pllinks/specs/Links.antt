@@ -3,34 +3,34 @@ use Rattle.std.specs.Prelude.{◌≡◌, ℕ, zero, suc, ◌<◌, ◌≤◌, max
 use Rattle.plsearch.specs.Types.{Element}
 use Rattle.plcells.specs.declared.cell.Cell.TheVariants as cells
 use Rattle.plenv.specs.Env.{Env}
-use Rattle.pllinks.specs.declared.item.Run.{Run}
-use Rattle.pllinks.specs.declared.item.Item.{Item}
-use Rattle.pllinks.specs.declared.item.Item.TheVariants as items
+use Rattle.pllinks.specs.declared.item.ClauseGoals.{ClauseGoals}
+use Rattle.pllinks.specs.declared.item.Portion.{Portion}
+use Rattle.pllinks.specs.declared.item.Portion.TheVariants as items
 use Rattle.pllinks.specs.declared.link.Link.{Link}
 use Rattle.pllinks.specs.declared.link.Continuation.{Continuation}
 use Rattle.pllinks.specs.Lists.{Goals, all_elements, AreItems}
 
 -- the lists of all links so far, that of number 0, the empty one, first
-abbrev pub added : List (List Item) → Link → List (List Item)
+abbrev pub added : List (List Portion) → Link → List (List Portion)
 added lists l = lists ++ (l.item ∷ get_or lists l.next []) ∷ []
 
-unfoldable pub lists_of : List Link → List (List Item)
+unfoldable pub lists_of : List Link → List (List Portion)
 lists_of links = fold added ([] ∷ []) links
 
 -- the items of the list of a number
-unfoldable pub list_at : List Link → ℕ → List Item
+unfoldable pub list_at : List Link → ℕ → List Portion
 unfolding lists_of
 list_at links i = get_or (lists_of links) i []
 
 -- the items of a list that begins with a run
-abbrev pub items_of : List Link → Continuation → List Item
-items_of links l = items.Run l.run ∷ list_at links l.rest
+abbrev pub items_of : List Link → Continuation → List Portion
+items_of links l = items.Clause l.run ∷ list_at links l.rest
 
 -- the goals behind the last one of a clause: none, where the code begins with an end
-abbrev pub done : Run
+abbrev pub done : ClauseGoals
 done = record { position = 0; owed = 0; base = 0; «end» = 0; level = 0 }
 
-abbrev pub IsDone : Run → Type 0
+abbrev pub IsDone : ClauseGoals → Type 0
 IsDone r = (r.position ≡ 0) × (r.owed ≡ 0)
 
 -- a list by its number
@@ -49,13 +49,13 @@ abbrev pub slots_at : List Link → ℕ → ℕ
 slots_at links zero = 0
 slots_at links (suc i) = (link_at links i).slots
 
-abbrev pub slots_in : Item → ℕ
-slots_in (items.Run r) = r.«end»
+abbrev pub slots_in : Portion → ℕ
+slots_in (items.Clause r) = r.«end»
 slots_in (items.Goal k v) = 0
 slots_in (items.Marker m l) = 0
 
 -- an item before a list
-abbrev pub link_to : List Link → Item → ℕ → Link
+abbrev pub link_to : List Link → Portion → ℕ → Link
 link_to links item rest = record { item = item; next = rest; slots = max (slots_in item) (slots_at links rest) }
 
 -- the rest of a link's list is among those before it; the list asks for no more slots than the link says

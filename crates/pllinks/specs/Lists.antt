@@ -10,9 +10,9 @@ use Rattle.plenv.specs.Env.{Env, over}
 use Rattle.plenv.specs.Rows.{AllBelowEach}
 use Rattle.pllinks.specs.declared.item.MarkerKind.{MarkerKind}
 use Rattle.pllinks.specs.declared.item.MarkerKind.TheVariants as markers
-use Rattle.pllinks.specs.declared.item.Run.{Run}
-use Rattle.pllinks.specs.declared.item.Item.{Item}
-use Rattle.pllinks.specs.declared.item.Item.TheVariants as items
+use Rattle.pllinks.specs.declared.item.ClauseGoals.{ClauseGoals}
+use Rattle.pllinks.specs.declared.item.Portion.{Portion}
+use Rattle.pllinks.specs.declared.item.Portion.TheVariants as items
 
 -- the goals from a position of the code on, where so many conjunctions of the first have been selected
 abbrev pub Goals : Type 0
@@ -27,24 +27,24 @@ marker_of h (markers.Collect v) = Collect (value h v)
 marker_of h (markers.Transact d) = Transact d
 
 -- the goals of a run of compiled goals
-abbrev pub run_goals : Goals → Run → List Tree
+abbrev pub run_goals : Goals → ClauseGoals → List Tree
 run_goals code r = code r.position r.owed
 
 -- a goal of a clause whose slots begin at a place, at a level
-abbrev pub goal_of : Env → Run → Tree → Element
+abbrev pub goal_of : Env → ClauseGoals → Tree → Element
 goal_of e r t = Goal r.level (bind (over e r.base) t)
 
-abbrev pub elements : Goals → Env → Item → List Element
-elements code e (items.Run r) = map (goal_of e r) (run_goals code r)
+abbrev pub elements : Goals → Env → Portion → List Element
+elements code e (items.Clause r) = map (goal_of e r) (run_goals code r)
 elements code e (items.Goal k v) = Goal k (value e.heap v) ∷ []
 elements code e (items.Marker m l) = Marker (marker_of e.heap m) l ∷ []
 
 -- what a goal list stands for, by its items
-unfoldable pub all_elements : Goals → Env → List Item → List Element
+unfoldable pub all_elements : Goals → Env → List Portion → List Element
 all_elements code e = flat_map (elements code e)
 
 -- the variables of a run's goals have their slots before `end`, and the goals are converted
-pub record IsRun (code : Goals) (r : Run) : Type 0 where
+pub record IsRun (code : Goals) (r : ClauseGoals) : Type 0 where
   pub width : ℕ
   pub below : AllBelowEach width (run_goals code r)
   pub within : r.base + width ≤ r.«end»
@@ -59,11 +59,11 @@ IsMarker h (markers.Collect v) = IsValue h v
 IsMarker h (markers.Transact d) = Unit {0}
 
 -- an item whose slots stand below n, and whose value is one of the heap
-abbrev pub IsItem : Goals → Store → ℕ → Item → Type 0
-IsItem code h n (items.Run r) = IsRun code r × (r.«end» ≤ n)
+abbrev pub IsItem : Goals → Store → ℕ → Portion → Type 0
+IsItem code h n (items.Clause r) = IsRun code r × (r.«end» ≤ n)
 IsItem code h n (items.Goal k v) = IsValue h v
 IsItem code h n (items.Marker m l) = IsMarker h m
 
-abbrev pub AreItems : Goals → Store → ℕ → List Item → Type 0
+abbrev pub AreItems : Goals → Store → ℕ → List Portion → Type 0
 AreItems code h n [] = Unit {0}
 AreItems code h n (x ∷ xs) = IsItem code h n x × AreItems code h n xs

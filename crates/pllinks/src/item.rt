@@ -22,7 +22,7 @@ pub enum MarkerKind {
 
 /// Goals of a clause, from a position of its code on.
 #[derive(Clone, Copy)]
-pub struct Run {
+pub struct ClauseGoals {
     pub position: u32,
     /// How many conjunctions of the first goal have been selected.
     pub owed: u32,
@@ -34,12 +34,12 @@ pub struct Run {
     pub level: Level,
 }
 
-impl Run {
+impl ClauseGoals {
     /// No goals: those behind the last one of a clause, whose code begins with an end.
-    pub fn done() -> Run
+    pub fn done() -> ClauseGoals
         ensures { result ≡ done }
     {
-        Run {
+        ClauseGoals {
             position: 0,
             owed: 0,
             base: 0,
@@ -58,9 +58,9 @@ impl Run {
 
 /// A part of a goal list.
 #[derive(Clone, Copy)]
-pub enum Item {
+pub enum Portion {
     /// Goals of a clause.
-    Run(Run),
+    Clause(ClauseGoals),
     /// A goal that is a term: its cut level, and its value.
     Goal(Level, Cell),
     /// A marker, and its level.

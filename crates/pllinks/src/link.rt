@@ -2,14 +2,14 @@
 ghost use Rattle.std.specs.Prelude.{◌≡◌, ◌+◌, ◌-◌, ◌<◌, ◌≤◌, [], ◌∷◌, ◌++◌, length, IfOk, IfSome, IfNone, OnOk, OnErr};
 ghost use Rattle.pllinks.specs.Links.{IsDone, Numbers, alone, link_at, slots_in, slots_at, link_to, list_at};
 
-use crate::item::{Item, Run};
+use crate::item::{Portion, ClauseGoals};
 use crate::list::ListId;
 use std::alloc::AllocError;
 
 /// An item, and the list behind it.
 #[derive(Clone, Copy)]
 pub struct Link {
-    pub item: Item,
+    pub item: Portion,
     pub next: ListId,
     /// How many slots the list asks for.
     pub slots: u32,
@@ -18,7 +18,7 @@ pub struct Link {
 /// A goal list: goals of a clause, perhaps none, before a list by its number.
 #[derive(Clone, Copy)]
 pub struct Continuation {
-    pub run: Run,
+    pub run: ClauseGoals,
     pub rest: ListId,
 }
 
@@ -28,20 +28,20 @@ impl Continuation {
         ensures { result ≡ alone rest }
     {
         Continuation {
-            run: Run::done(),
+            run: ClauseGoals::done(),
             rest,
         }
     }
 }
 
 /// How many slots an item asks for.
-fn slots_for(item: &Item) -> u32
+fn slots_for(item: &Portion) -> u32
     ensures { result ≡ slots_in item.now }
 {
     match item {
-        Item::Run(run) => run.end,
-        Item::Goal(_, _) => 0,
-        Item::Marker(_, _) => 0,
+        Portion::Clause(run) => run.end,
+        Portion::Goal(_, _) => 0,
+        Portion::Marker(_, _) => 0,
     }
 }
 
@@ -68,7 +68,7 @@ pub fn slots_of(links: &[Link], list: ListId) -> u32
 }
 
 /// A new list: an item before a list that is there. It gives the list's number.
-pub fn push_link(links: &mut Vec<Link>, item: Item, rest: ListId) -> Result<ListId, AllocError>
+pub fn push_link(links: &mut Vec<Link>, item: Portion, rest: ListId) -> Result<ListId, AllocError>
     requires { rest ≤ length links.old.items }
     ensures ok { OnOk result (links.new.items ≡ links.old.items ++ link_to links.old.items item rest ∷ []) }
     ensures number { IfOk result (λ i. i ≡ length links.old.items + 1) }
@@ -98,6 +98,6 @@ pub fn number_of(links: &mut Vec<Link>, list: Continuation) -> Result<ListId, Al
     if list.run.is_done() {
         return Ok(list.rest);
     }
-    let number = push_link(links, Item::Run(list.run), list.rest)?;
+    let number = push_link(links, Portion::Clause(list.run), list.rest)?;
     Ok(number)
 }

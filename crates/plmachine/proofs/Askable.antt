@@ -13,7 +13,7 @@ use Rattle.plviews.specs.Layers.{Layered}
 use Rattle.plviews.specs.Views.{seen_in, sight_in}
 use Rattle.plviews.specs.declared.view.View.{View}
 use Rattle.plprogram.specs.Program.{Program}
-use Rattle.plsearch.specs.Types.{ToCall, ToRetrieve, ToRetract, ToRetractAll, Look, Begin, Asking, Element, Lookup, Local, Place}
+use Rattle.plsearch.specs.Types.{ToCall, ToRetrieve, ToRetract, ToRetractAll, Look, Begin, Asking, Element, Lookup, Local, Resolvent}
 use Rattle.plsearch.specs.Moves.{publish}
 use Rattle.plsearch.specs.Machines.Machine.{At, Machine, move}
 use Rattle.pllinks.specs.declared.link.Continuation.{Continuation}
@@ -64,7 +64,7 @@ named-by s l found named fits db = named (cases_of db s) (subst (λ ks. FitsIn k
 -- ---- what is asked and sought
 
 fit-as : (s t : State) → kinds_in t ≡ kinds_in s → place_of t ≡ place_of s → IsFit s s.goals → IsFit t t.goals
-fit-as s t same place fits = subst (λ ks. FitsIn ks (goals_of t t.goals)) (sym same) (subst (FitsIn (kinds_in s)) (sym (ap (λ (p : Place). p.goals) place)) fits)
+fit-as s t same place fits = subst (λ ks. FitsIn ks (goals_of t t.goals)) (sym same) (subst (FitsIn (kinds_in s)) (sym (ap (λ (p : Resolvent). p.goals) place)) fits)
 
 sought-as : (s t : State) (u : Sought) → ValuesStay s t → IsSought s.env.heap u → IsSought t.env.heap u × (lookup_of t.env.heap u ≡ lookup_of s.env.heap u)
 sought-as s t (lookups.ToCall v) values may = let x = values v may in (x.0, ap ToCall x.1)
@@ -102,7 +102,7 @@ same-element own s t (questions.Await q next) values may = refl
 same-element own s t (questions.Erase x) values may = refl
 
 behind-as : (s t : State) (e e' : Element) → e ≡ e' → place_of t ≡ place_of s → place_behind t (e ∷ goals_of t t.goals) ≡ place_behind s (e' ∷ goals_of s s.goals)
-behind-as s t e e' same place = ap₂ (λ e (p : Place). At (record { goals = e ∷ p.goals; variables = p.variables })) same place
+behind-as s t e e' same place = ap₂ (λ e (p : Resolvent). At (record { goals = e ∷ p.goals; variables = p.variables })) same place
 
 module _ (P : Program) (v : Views) (s new : Reached) (left : ℕ) (answers : List Answer) (values : ValuesStay s.stack new.stack) (place : place_of new.stack ≡ place_of s.stack) (cases : cases_in P v new ≡ cases_in P v s)
     (layer : new.layer ≡ s.layer) (local : local_of new ≡ local_of s) where
@@ -128,7 +128,7 @@ module _ (P : Program) (v : Views) (s new : Reached) (left : ℕ) (answers : Lis
   same-find (finds.All c g) may = looking-as _ _ _ _ (ap ToRetractAll (values c may.0).1) (seen-as g)
   same-find (finds.Sweep c w) may =
       ap₂ (λ (own : List Update) (t : Tree). move (cases_in P v new) (run_in v left answers new) (publish (swept (sight_in v own w.view) new.stack.env.count t w) (goals_of new.stack new.stack.goals) new.stack.env.count (local_of new))) updates-as (values c may.0).1
-      ∙ ap₂ (λ (p : Place) (l : Local). move (cases_in P v new) (run_in v left answers new) (publish (swept (sight_in v s.layer.own.updates w.view) p.variables (value s.stack.env.heap c) w) p.goals p.variables l)) place local
+      ∙ ap₂ (λ (p : Resolvent) (l : Local). move (cases_in P v new) (run_in v left answers new) (publish (swept (sight_in v s.layer.own.updates w.view) p.variables (value s.stack.env.heap c) w) p.goals p.variables l)) place local
       ∙ ap₂ (λ cs r. move cs r (publish (swept (sight_in v s.layer.own.updates w.view) s.stack.env.count (value s.stack.env.heap c) w) (goals_of s.stack s.stack.goals) s.stack.env.count (local_of s))) cases (run-as answers)
 
   same-mode : (m m' : _) → m ≡ m' → ◌≡◌ {A = Machine} (record { mode = m; cases = cases_in P v new; run = run_in v left answers new }) (record { mode = m'; cases = cases_in P v s; run = run_in v left answers s })

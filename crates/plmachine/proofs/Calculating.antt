@@ -21,7 +21,7 @@ use Rattle.plsearch.specs.Forms.{form, form_by, BuiltIn}
 use Rattle.plenv.specs.Env.{over}
 use Rattle.plexpression.specs.Nodes.{IsOffHeap}
 use Rattle.plexpression.specs.declared.pair.Pair.{Pair}
-use Rattle.pllinks.specs.declared.item.Run.{Run}
+use Rattle.pllinks.specs.declared.item.ClauseGoals.{ClauseGoals}
 use Rattle.plstack.specs.Arguments.{IsArgument, IsPair}
 use Rattle.plstack.specs.State.{State}
 use Rattle.plmachine.specs.declared.arithmetic.Calculation.{Calculation}
@@ -46,7 +46,7 @@ form-arithmetic t a = ap form a.is ∙ form-pair a.name a.left a.right a.predica
 bound-arithmetic : (σ : ℕ → Tree) (t : Tree) (a : IsArithmetic t) → form (bind σ t) ≡ BuiltIn (predicates.Arithmetic a.predicate) (bind σ a.left ∷ bind σ a.right ∷ [])
 bound-arithmetic σ t a = ap form (ap (bind σ) a.is ∙ bind-pair σ a.name a.left a.right) ∙ form-pair a.name (bind σ a.left) (bind σ a.right) a.predicate a.kind
 
-module _ (P : Program) (s : Reached) (begun : IsBegun P s) (more : Extends s.stack.basis.code.text.names s.stack.env.heap.names) (table : IsTable s.stack.env.heap.names) (r : Run) (u : Tree) (p : Pair) (pair : IsPair s.stack r u p) where
+module _ (P : Program) (s : Reached) (begun : IsBegun P s) (more : Extends s.stack.basis.code.text.names s.stack.env.heap.names) (table : IsTable s.stack.env.heap.names) (r : ClauseGoals) (u : Tree) (p : Pair) (pair : IsPair s.stack r u p) where
   abbrev own_text : Text
   own_text = renamed s.stack.env.heap.names s.stack.basis.code.text
 
@@ -86,7 +86,7 @@ module _ (P : Program) (s : Reached) (begun : IsBegun P s) (more : Extends s.sta
       go callees.Unknown none = let d : None ≡ Some (kinds.BuiltIn (predicates.Arithmetic a.predicate)) = sym none.0 ∙ named in absurd (cc)
 
 -- the node of a source
-pub node-of : (r q : Run) (i j : ℕ) → Node r i ≡ Node q j → i ≡ j
+pub node-of : (r q : ClauseGoals) (i j : ℕ) → Node r i ≡ Node q j → i ≡ j
 node-of r q i j same = cc
 
 pub if-none : {A X : Type 0} (o : Option A) → X → IfNone o X
@@ -94,14 +94,14 @@ if-none (Some a) x = tt
 if-none None x = x
 
 -- a node stands for one term
-one-term : (s : State) (r q : Run) (i j : ℕ) (t u : Tree) → i ≡ j → IsArgument s r i t → IsArgument s q j u → t ≡ u
+one-term : (s : State) (r q : ClauseGoals) (i j : ℕ) (t u : Tree) → i ≡ j → IsArgument s r i t → IsArgument s q j u → t ≡ u
 one-term s r q i j t u same left right =
     let rows = sym left.stand.terms ∙ ap (λ k. row s.basis.code.text.names s.basis.code.text.nodes k 1) same ∙ right.stand.terms in
     let heads : t ∷ [] ≡ u ∷ [] = rows in
     cc
 
 -- a goal of an arithmetic predicate that stands in a clause, as it is found
-pub found-needs : (s : State) (r : Run) (node : ℕ) (t : Tree) (k : Calculation) (c : IsCalculation s k (bound_at s r t)) (a : IsArithmetic t) → Node r node ≡ Node k.run k.node → IsArgument s r node t →
+pub found-needs : (s : State) (r : ClauseGoals) (node : ℕ) (t : Tree) (k : Calculation) (c : IsCalculation s k (bound_at s r t)) (a : IsArithmetic t) → Node r node ≡ Node k.run k.node → IsArgument s r node t →
     NeedsNoCell s r a.predicate a.left a.right → NeedsNoCell s k.run k.predicate c.left c.right
 found-needs s r node t k c a source there needs =
     let run : r ≡ k.run = cc in

@@ -4,7 +4,7 @@ use Rattle.plterm.specs.Tree.{Tree}
 use Rattle.plterm.specs.declared.indicator.Indicator.{Indicator}
 use Rattle.plviews.specs.Layers.{Layered}
 use Rattle.plprogram.specs.Program.{Program, clauses_for}
-use Rattle.plsearch.specs.Types.{Place, Choice}
+use Rattle.plsearch.specs.Types.{Resolvent, Choice}
 use Rattle.plsearch.specs.Moves.{call, choose}
 use Rattle.plsearch.specs.Engine.{deeper}
 use Rattle.plsearch.specs.Machines.Machine.{At}
@@ -25,8 +25,8 @@ use Rattle.plmachine.specs.Selected.{IsStaticCall}
 use Rattle.plmachine.proofs.Moves.{below-as, gives, goes-at, machine-is, moved-as, seeks-none, tied-as, visit-asks}
 
 -- the first of some places is visited, in a choice of the others
-pub chooses : (P : Program) (s new : Reached) (st : State) (ps : List Place) → s.mode ≡ modes.Visit → st.basis ≡ s.stack.basis → walks_in st ≡ walks_in s.stack → new ≡ record s { stack = st } →
-    ((v : Views) → (others : List Place) × (ps ≡ place_of st ∷ others) × (cases_of (database_of P v s.layer.own.updates) st ≡ Choice others ∷ cases_of (database_of P v s.layer.own.updates) s.stack)) → Moved P s new (choose ps (local_of s))
+pub chooses : (P : Program) (s new : Reached) (st : State) (ps : List Resolvent) → s.mode ≡ modes.Visit → st.basis ≡ s.stack.basis → walks_in st ≡ walks_in s.stack → new ≡ record s { stack = st } →
+    ((v : Views) → (others : List Resolvent) × (ps ≡ place_of st ∷ others) × (cases_of (database_of P v s.layer.own.updates) st ≡ Choice others ∷ cases_of (database_of P v s.layer.own.updates) s.stack)) → Moved P s new (choose ps (local_of s))
 chooses P s new st ps at basis walks made chosen =
     let visits : new.mode ≡ modes.Visit = ap (λ x. x.mode) made ∙ at in
     let rests : new.stack.basis ≡ s.stack.basis = ap (λ x. x.stack.basis) made ∙ basis in
@@ -51,7 +51,7 @@ chooses P s new st ps at basis walks made chosen =
     }
 
 -- there is none
-pub chooses-none : (P : Program) (s new : Reached) (st : State) (ps : List Place) → st.basis ≡ s.stack.basis → walks_in st ≡ walks_in s.stack → new ≡ record s { stack = st; mode = modes.Back outcomes.Fail } →
+pub chooses-none : (P : Program) (s new : Reached) (st : State) (ps : List Resolvent) → st.basis ≡ s.stack.basis → walks_in st ≡ walks_in s.stack → new ≡ record s { stack = st; mode = modes.Back outcomes.Fail } →
     ps ≡ [] → ((v : Views) → cases_of (database_of P v s.layer.own.updates) st ≡ cases_of (database_of P v s.layer.own.updates) s.stack) → Moved P s new (choose ps (local_of s))
 chooses-none P s new st ps basis walks made none cases =
     subst (λ qs. Moved P s new (choose qs (local_of s))) (sym none)

@@ -10,7 +10,7 @@ use Rattle.plevent.specs.declared.update.Living.{Living}
 use Rattle.plevent.specs.Alive.{clauses_of, Stamped}
 use Rattle.pltx.specs.Own.{State as Own}
 use Rattle.plprogram.specs.Program.{Program}
-use Rattle.plsearch.specs.Types.{Asking, Fail, Case, Choice, Element, Erase, Place, Local, Move, Run, ToRetrieve}
+use Rattle.plsearch.specs.Types.{Asking, Fail, Case, Choice, Element, Erase, Resolvent, Local, Move, Supply, ToRetrieve}
 use Rattle.plsearch.specs.Machines.Machine.{At, Back, Rest, move, turn}
 use Rattle.plsearch.specs.Lists.{bind_goals}
 use Rattle.plsearch.specs.Moves.{resolve, choose}
@@ -61,7 +61,7 @@ at-by st (Some x) = refl
 -- ---- walks
 
 -- a walk of which no clause was tried is the choice of its places
-walks-rest : (P : Program) (cs : List Case) (ps : List Place) (run : Run) → Rest P (move cs run (choose ps run.local)) ≡ Rest P (record { mode = Back Fail; cases = Choice ps ∷ cs; run = run })
+walks-rest : (P : Program) (cs : List Case) (ps : List Resolvent) (run : Supply) → Rest P (move cs run (choose ps run.local)) ≡ Rest P (record { mode = Back Fail; cases = Choice ps ∷ cs; run = run })
 unfolding turn
 walks-rest P cs [] run = sym (Rest-turn P (record { mode = Back Fail; cases = Choice [] ∷ cs; run = run }))
 walks-rest P cs (p ∷ ps) run = sym (Rest-turn P (record { mode = Back Fail; cases = Choice (p ∷ ps) ∷ cs; run = run }))
@@ -75,7 +75,7 @@ walks P s st w rest o = record {
   ends = λ v most left answers.
       let t = value s.stack.env.heap w.goal in
       let db = database_of P v s.layer.own.updates in
-      let ps : ℕ → List Place = λ d. candidates_left d s.stack.env t (goals_of s.stack rest) (left_at db w.uses t w.spot) in
+      let ps : ℕ → List Resolvent = λ d. candidates_left d s.stack.env t (goals_of s.stack rest) (left_at db w.uses t w.spot) in
       ap (ending_of most) (walks-rest P (cases_in P v s) (ps (depth_of s)) (run_in v left answers s))
       ∙ ap (λ d. ending_of most (Rest P (record { mode = Back Fail; cases = Choice (ps d) ∷ cases_in P v s; run = run_in v left answers s }))) (sym (depth-in db s.stack))
       ∙ ap (λ m. ending_of most (Rest P m)) (sym (machine-is P v (record s { stack = st; mode = modes.Back outcomes.Fail }) (Back Fail) _ (below_in v s) (local_of s) tt refl (o.cases db) refl refl left answers));
@@ -117,7 +117,7 @@ walks-moved P s new t u spot es m w none same = record {
 tried-none : (d n : ℕ) (t : Tree) (rest : List Element) (u : Use) (c : Clause) → tried d n t rest (text_candidate u c) ≡ resolve d n t rest (clause_by u c)
 tried-none d n t rest u c = go (resolve d n t rest (clause_by u c))
   where
-    go : (o : Option Place) → option_map (place_asked None) o ≡ o
+    go : (o : Option Resolvent) → option_map (place_asked None) o ≡ o
     go None = refl
     go (Some p) = refl
 

@@ -1,7 +1,7 @@
 -- A cut that empties what it gives up leaves the search as a mark does.
 use Rattle.std.proofs.Common.{◌≡◌, ℕ, [], ◌∷◌, ◌++◌, sym, ap, ap₂, ◌∙◌, subst}
 use Rattle.plprogram.specs.Program.{Program}
-use Rattle.plsearch.specs.Types.{Go, Place, Mark, Run}
+use Rattle.plsearch.specs.Types.{Go, Resolvent, Mark, Supply}
 use Rattle.plsearch.specs.Machines.Machine.{At, Rest}
 use Rattle.plsearch.specs.Search.{ending_of}
 use Rattle.plsearch.proofs.Cuts.{cuts-empty}
@@ -18,13 +18,13 @@ use Rattle.plmachine.specs.Machine.{IsPlain, below_in, local_of, mode_of, cases_
 use Rattle.plmachine.proofs.Moves.{below-as, machine-is, seeks-none, tied-as, visit-asks}
 
 module _ (P : Program) (old new : State) (level : ℕ) (list : Continuation) (there : IsList old list) (cut : Cuts old new level list) where
-  abbrev place : Place
+  abbrev place : Resolvent
   place = record { goals = goals_of old list; variables = old.env.count }
 
   pub cut-place : place_of new ≡ record { goals = goals_of old list; variables = old.env.count }
   cut-place = ap₂ (λ gs n. record { goals = gs; variables = n }) (ap (goals_of new) cut.goals ∙ (cut.keeps.lists list there).1) cut.keeps.count
 
-  pub cut-rest : (db : Database) (run : Run) →
+  pub cut-rest : (db : Database) (run : Supply) →
       Rest P (record { mode = At place; cases = cases_of db new; run = run }) ≡ Rest P (record { mode = At place; cases = Mark level ∷ cases_of db old; run = run })
   cut-rest db run =
       let e = cut.cases db in

@@ -2,8 +2,8 @@
 use Rattle.std.proofs.Common.{◌≡◌, ℕ, suc, ◌<◌, ◌≤◌, inl, inr, List, [], ◌∷◌, ◌++◌, length, map, refl, sym, ap, ap₂, ◌∙◌, subst, arith, reverse, le_refl}
 use Rattle.plterm.specs.Tree.{Tree}
 use Rattle.plsearch.specs.Types.{Commit, Never, Until, Collect, Transact, Kind, Element, Goal, Marker, Case}
-use Rattle.pllinks.specs.declared.item.Item.{Item}
-use Rattle.pllinks.specs.declared.item.Item.TheVariants as items
+use Rattle.pllinks.specs.declared.item.Portion.{Portion}
+use Rattle.pllinks.specs.declared.item.Portion.TheVariants as items
 use Rattle.pllinks.specs.declared.link.Continuation.{Continuation}
 use Rattle.pllinks.specs.Lists.{goal_of, run_goals}
 use Rattle.plstack.specs.Levels.{kinds, kinds_of, transacts, transact_at, undoings, Choosing, ChoiceIn, MayCut, Sort, Undoing, top_behind, Fits, FitsIn, Precedes}
@@ -105,8 +105,8 @@ module _ (ks : List Sort) (d : ℕ) (is : d ≡ length ks) (es : List Element) (
   transact-goal t = ((omega (arith, is), inl (refl, ap (λ k. suc (suc k)) is), transact-behind (suc (suc (suc d))) (omega arith)), transact-level)
 
 -- goals at a level
-pub goals-fit : (s : State) (ks : List Sort) (k d : ℕ) (x : Item) → AreGoals x → (es : List Element) → k < d → ChoiceIn ks k → Fits ks (suc k) es → Fits ks d (elements_of s (at_level k x) ++ es)
-goals-fit s ks k d (items.Run r) g es lt c f = run-of (run_goals (goals_in s) r) d lt
+pub goals-fit : (s : State) (ks : List Sort) (k d : ℕ) (x : Portion) → AreGoals x → (es : List Element) → k < d → ChoiceIn ks k → Fits ks (suc k) es → Fits ks d (elements_of s (at_level k x) ++ es)
+goals-fit s ks k d (items.Clause r) g es lt c f = run-of (run_goals (goals_in s) r) d lt
   where
     run-of : (ts : List Tree) (d : ℕ) → k < d → Fits ks d (map (goal_of s.env (record r { level = k })) ts ++ es)
     run-of [] d lt = fits-top ks es (suc k) d (omega (arith, lt)) f
@@ -115,8 +115,8 @@ goals-fit s ks k d (items.Goal l v) g es lt c f = (lt, c, f)
 goals-fit s ks k d (items.Marker m l) g es lt c f = absurd g
 
 -- and they end nothing
-pub goals-transacts : (s : State) (x : Item) → AreGoals x → (es : List Element) → transacts (elements_of s x ++ es) ≡ transacts es
-goals-transacts s (items.Run r) g es = run-of (run_goals (goals_in s) r)
+pub goals-transacts : (s : State) (x : Portion) → AreGoals x → (es : List Element) → transacts (elements_of s x ++ es) ≡ transacts es
+goals-transacts s (items.Clause r) g es = run-of (run_goals (goals_in s) r)
   where
     run-of : (ts : List Tree) → transacts (map (goal_of s.env r) ts ++ es) ≡ transacts es
     run-of [] = refl
@@ -125,17 +125,17 @@ goals-transacts s (items.Goal l v) g es = refl
 goals-transacts s (items.Marker m l) g es = absurd g
 
 -- goals at a level are goals
-level-goals : (k : ℕ) (x : Item) → AreGoals x → AreGoals (at_level k x)
-level-goals k (items.Run r) g = tt
+level-goals : (k : ℕ) (x : Portion) → AreGoals x → AreGoals (at_level k x)
+level-goals k (items.Clause r) g = tt
 level-goals k (items.Goal l v) g = tt
 level-goals k (items.Marker m l) g = absurd g
 
 -- goals at a level fit before a list before which a goal of that level may stand
-pub goals-fit-in : (s : State) (ks : List Sort) (k : ℕ) (x : Item) → AreGoals x → (es : List Element) → Precedes ks k es → FitsIn ks (elements_of s (at_level k x) ++ es)
+pub goals-fit-in : (s : State) (ks : List Sort) (k : ℕ) (x : Portion) → AreGoals x → (es : List Element) → Precedes ks k es → FitsIn ks (elements_of s (at_level k x) ++ es)
 goals-fit-in s ks k x g es p = (goals-fit s ks k (length ks) x g es p.0.0 p.0.1 p.0.2, goals-transacts s (at_level k x) (level-goals k x g) es ∙ p.1)
 
 -- a condition and what follows it
-pub condition-fits : (s : State) (ks : List Sort) (d : ℕ) → d ≡ length ks → (x : Item) → AreGoals x → (es : List Element) → FitsIn ks es → FitsIn (Choosing ∷ Choosing ∷ ks) (elements_of s (at_level (suc d) x) ++ (Marker Commit d ∷ es))
+pub condition-fits : (s : State) (ks : List Sort) (d : ℕ) → d ≡ length ks → (x : Portion) → AreGoals x → (es : List Element) → FitsIn ks es → FitsIn (Choosing ∷ Choosing ∷ ks) (elements_of s (at_level (suc d) x) ++ (Marker Commit d ∷ es))
 condition-fits s ks d is x g es f = (
   goals-fit s (Choosing ∷ Choosing ∷ ks) (suc d) (suc (suc (length ks))) x g (Marker Commit d ∷ es) (omega (arith, is)) (inl (refl, ap suc is))
       (fits-top (Choosing ∷ Choosing ∷ ks) (Marker Commit d ∷ es) (suc d) (suc (suc d)) (omega arith) (marker-fits ks Choosing d is refl es f Commit (inr (inl (refl, is))))),

@@ -7,8 +7,8 @@ use Rattle.plsearch.specs.Types.{Commit, Element, Goal, Marker}
 use Rattle.plenv.specs.Rows.{AllBelowEach}
 use Rattle.plcode.specs.Converted.{AreConverted}
 use Rattle.plcode.specs.Steps.{FAIL, goals_from}
-use Rattle.pllinks.specs.declared.item.Item.{Item}
-use Rattle.pllinks.specs.declared.item.Item.TheVariants as items
+use Rattle.pllinks.specs.declared.item.Portion.{Portion}
+use Rattle.pllinks.specs.declared.item.Portion.TheVariants as items
 use Rattle.pllinks.specs.declared.item.MarkerKind.TheVariants as markers
 use Rattle.pllinks.specs.declared.link.Continuation.{Continuation}
 use Rattle.pllinks.specs.Lists.{goal_of, elements, IsItem}
@@ -54,7 +54,7 @@ holds-same s l es fs e h = record { there = h.there; is = h.is ∙ e }
 
 -- ---- parts of lists
 
-module _ (a b : State) (f : Lengthened a b) (x : Item) where
+module _ (a b : State) (f : Lengthened a b) (x : Portion) where
   pub part-there : IsPart a x → IsPart b x
   part-there p = subst (λ e. IsItem (goals_in b) e.heap (length e.slots) x) (sym f.env) (subst (λ (c : Basis). IsItem (goals_from c.code.text) a.env.heap (length a.env.slots) x) (sym f.extends.basis) p)
 
@@ -62,13 +62,13 @@ module _ (a b : State) (f : Lengthened a b) (x : Item) where
   part-same = ap₂ (λ (c : Basis) e. elements (goals_from c.code.text) e x) f.extends.basis f.env
 
 -- the level of a part
-pub part-level : (s : State) (k : ℕ) (x : Item) → IsPart s x → IsPart s (at_level k x)
-part-level s k (items.Run r) p = (record { width = p.0.width; below = p.0.below; within = p.0.within; converted = p.0.converted }, p.1)
+pub part-level : (s : State) (k : ℕ) (x : Portion) → IsPart s x → IsPart s (at_level k x)
+part-level s k (items.Clause r) p = (record { width = p.0.width; below = p.0.below; within = p.0.within; converted = p.0.converted }, p.1)
 part-level s k (items.Goal l v) p = p
 part-level s k (items.Marker m l) p = p
 
 -- a part before a list, by what they stood for before
-pub before-then : (a b c : State) (x : Item) (l m : Continuation) (es : List Element) → Lengthened a b → Holds b l es → Holds c m (elements_of b x ++ goals_of b l) → Holds c m (elements_of a x ++ es)
+pub before-then : (a b c : State) (x : Portion) (l m : Continuation) (es : List Element) → Lengthened a b → Holds b l es → Holds c m (elements_of b x ++ goals_of b l) → Holds c m (elements_of a x ++ es)
 before-then a b c x l m es f h made = holds-same c m _ _ (ap₂ (λ xs ys. xs ++ ys) (part-same a b f x) h.is) made
 
 -- ---- the goal fail/0
@@ -82,8 +82,8 @@ fail-is s is k = ap (map (goal_of s.env (record { position = FAIL; owed = 0; bas
 
 -- ---- a condition before what follows it
 
-module _ (s a b : State) (condition then : Item) (following list : Continuation) (es : List Element) (f : Lengthened s a) (behind : Holds a following (elements_of s then ++ es)) where
-  pub then-list : (x : Item) (k k' d d' : ℕ) → x ≡ at_level k condition → k ≡ k' → d ≡ d' → Holds b list (elements_of a x ++ (elements_of a (items.Marker markers.Commit d) ++ goals_of a following)) →
+module _ (s a b : State) (condition then : Portion) (following list : Continuation) (es : List Element) (f : Lengthened s a) (behind : Holds a following (elements_of s then ++ es)) where
+  pub then-list : (x : Portion) (k k' d d' : ℕ) → x ≡ at_level k condition → k ≡ k' → d ≡ d' → Holds b list (elements_of a x ++ (elements_of a (items.Marker markers.Commit d) ++ goals_of a following)) →
       Holds b list (elements_of s (at_level k' condition) ++ (Marker Commit d' ∷ (elements_of s then ++ es)))
   then-list x k k' d d' e ek ed made =
       let first : elements_of a x ≡ elements_of s (at_level k' condition) = ap (elements_of a) e ∙ part-same s a f (at_level k condition) ∙ ap (λ k. elements_of s (at_level k condition)) ek in

@@ -10,7 +10,7 @@ use Rattle.plstore.specs.Looking.{Views}
 use Rattle.pltx.specs.Own.{any_open}
 use Rattle.plviews.specs.Layers.{Layered}
 use Rattle.plprogram.specs.Program.{Program}
-use Rattle.plsearch.specs.Types.{Throw, Element, Place, Case, Local, Move, Give, Go}
+use Rattle.plsearch.specs.Types.{Throw, Element, Resolvent, Case, Local, Move, Give, Go}
 use Rattle.plsearch.specs.Errors.{error_term, instantiation_error}
 use Rattle.plsearch.specs.Lists.{levels}
 use Rattle.plsearch.specs.Moves.{raised, go_on}
@@ -180,18 +180,18 @@ pub moved-grown : (P : Program) (s t new : Reached) (m m' : Move) → Grown s.st
 moved-grown P s t new m m' g is same moved = subst (Moved P s new) same (moved-from P s t new m (grown-stays P s t g is) moved)
 
 -- a list is visited, in more cases
-pub goes-at : (P : Program) (v : Views) (s new : Reached) (cs : List Case) (p : Place) (w : Local) → IsPlain new.mode → mode_of new.mode new.stack ≡ At p → cases_in P v new ≡ cs ++ cases_in P v s → below_in v new ≡ below_in v s → local_of new ≡ w →
+pub goes-at : (P : Program) (v : Views) (s new : Reached) (cs : List Case) (p : Resolvent) (w : Local) → IsPlain new.mode → mode_of new.mode new.stack ≡ At p → cases_in P v new ≡ cs ++ cases_in P v s → below_in v new ≡ below_in v s → local_of new ≡ w →
     (most left : ℕ) (answers : List Answer) → after P v s most left answers (Go cs p w) ≡ now P v new most left answers
 goes-at P v s new cs p w plain at cases below local most left answers = ap (λ m. ending_of most (Rest P m)) (sym (machine-is P v new (At p) (cs ++ cases_in P v s) (below_in v s) w plain at cases below local left answers))
 
 -- no result is carried there
-carry-at : (s : State) (m : Going) (p : Place) → mode_of m s ≡ At p → MayCarry s m
+carry-at : (s : State) (m : Going) (p : Resolvent) → mode_of m s ≡ At p → MayCarry s m
 carry-at s modes.Visit p at = tt
 carry-at s (modes.Ask q) p at = tt
 carry-at s (modes.Find f) p at = tt
 carry-at s (modes.Back r) p at = absurd (cc)
 
-pub goes-to : (P : Program) (s new : Reached) (cs : List Case) (p : Place) (w : Local) → new.stack.basis ≡ s.stack.basis → new.layer ≡ s.layer → walks_in new.stack ≡ walks_in s.stack → MayAsk new.layer.own new.stack new.mode → IsPlain new.mode →
+pub goes-to : (P : Program) (s new : Reached) (cs : List Case) (p : Resolvent) (w : Local) → new.stack.basis ≡ s.stack.basis → new.layer ≡ s.layer → walks_in new.stack ≡ walks_in s.stack → MayAsk new.layer.own new.stack new.mode → IsPlain new.mode →
     mode_of new.mode new.stack ≡ At p → ((v : Views) → cases_in P v new ≡ cs ++ cases_in P v s) → local_of new ≡ w → Moved P s new (Go cs p w)
 goes-to P s new cs p w basis layer walks may plain at cases local = record {
   plain = plain;

@@ -9,7 +9,7 @@ use Rattle.plviews.specs.Layers.{Layered}
 use Rattle.plviews.specs.Views.{seen_in}
 use Rattle.plviews.specs.declared.view.View.{View}
 use Rattle.plprogram.specs.Program.{Program}
-use Rattle.plsearch.specs.Types.{Asking, Case, Element, Local, Look, Lookup, Run}
+use Rattle.plsearch.specs.Types.{Asking, Case, Element, Local, Look, Lookup, Supply}
 use Rattle.plsearch.specs.Engine.{deeper}
 use Rattle.plsearch.specs.Lookups.{looked_up, seek, seen}
 use Rattle.plsearch.specs.Moves.{go_on}
@@ -38,11 +38,11 @@ seek-open : (below : List Stamped) (u : Lookup) (d : ℕ) (es : List Element) (n
 seek-open below u d es n w some = ap (λ (b : Bool). if b then looked_up (seen below w.own) u d es n w else go_on (Asking (Look u) ∷ es) n w) (sym some)
 
 -- a look-up before a list
-abbrev asking : List Case → Run → Lookup → List Element → ℕ → Machine
+abbrev asking : List Case → Supply → Lookup → List Element → ℕ → Machine
 asking cs run u es n = record { mode = At (record { goals = Asking (Look u) ∷ es; variables = n }); cases = cs; run = run }
 
 -- one whose answer comes next is made in the next turn
-looked : (P : Program) (cs : List Case) (run : Run) (u : Lookup) (es : List Element) (n g : ℕ) (us : List Stamped) →
+looked : (P : Program) (cs : List Case) (run : Supply) (u : Lookup) (es : List Element) (n g : ℕ) (us : List Stamped) →
     Rest P (move cs run (looked_up us u (deeper cs 0) es n run.local)) ≡ Rest P (asking cs (record run { answers = Seen g us ∷ run.answers }) u es n)
 unfolding turn meet answered
 looked P cs run u es n g us = sym (Rest-turn P (asking cs (record run { answers = Seen g us ∷ run.answers }) u es n))

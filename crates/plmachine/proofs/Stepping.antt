@@ -16,7 +16,7 @@ use Rattle.plcode.specs.Steps.{Text, Args, of_two, IsFor}
 use Rattle.plcode.proofs.Bound.{form_bound, bound_form}
 use Rattle.plenv.specs.Env.{over}
 use Rattle.plenv.specs.Rows.{AllBelowEach}
-use Rattle.pllinks.specs.declared.item.Run.{Run}
+use Rattle.pllinks.specs.declared.item.ClauseGoals.{ClauseGoals}
 use Rattle.pllinks.specs.Lists.{goal_of}
 use Rattle.plstack.specs.State.{State, goals_in}
 use Rattle.plmachine.specs.Lists.{at_level, branch_at, elements_of, IsPart}
@@ -28,7 +28,7 @@ pub two-below : (n : ℕ) (s : List ℕ) (a b : Tree) → AllBelow n (of_two s a
 two-below n s a b w = (w.0, w.1.0)
 
 -- a branch as a part of lists
-module _ (s : State) (r : Run) (width : ℕ) (own : r.base + width ≤ r.«end») (slots : r.«end» ≤ length s.env.slots) (p : ℕ) (g : Tree) (begins : goals_in s p 0 ≡ g ∷ []) where
+module _ (s : State) (r : ClauseGoals) (width : ℕ) (own : r.base + width ≤ r.«end») (slots : r.«end» ≤ length s.env.slots) (p : ℕ) (g : Tree) (begins : goals_in s p 0 ≡ g ∷ []) where
   pub branch-part : AllBelow width g → AreConverted (goals_in s p 0) → IsPart s (branch_at r p)
   branch-part below converted = (record { width = width; below = subst (AllBelowEach width) (sym begins) (below, tt); within = own; converted = converted }, slots)
 
@@ -44,7 +44,7 @@ plain-node c place op at g is same = subst (λ o. IsFor c place o at g) same is
 
 -- ---- the moves of control constructs of branches
 
-module _ (P : Program) (below : List Stamped) (s : State) (r : Run) (d : ℕ) (es : List Element) (n : ℕ) (w : Local) (g : Tree) (converted : IsConverted g) where
+module _ (P : Program) (below : List Stamped) (s : State) (r : ClauseGoals) (d : ℕ) (es : List Element) (n : ℕ) (w : Local) (g : Tree) (converted : IsConverted g) where
   abbrev t : Tree
   t = bound_at s r g
 

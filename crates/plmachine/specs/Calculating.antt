@@ -10,7 +10,7 @@ use Rattle.plnames.specs.declared.kind.Kind.TheVariants as kinds
 use Rattle.plarith.specs.Evaluation.{eval}
 use Rattle.plsearch.specs.Forms.{form, BuiltIn}
 use Rattle.plexpression.specs.Nodes.{IsOffHeap}
-use Rattle.pllinks.specs.declared.item.Run.{Run}
+use Rattle.pllinks.specs.declared.item.ClauseGoals.{ClauseGoals}
 use Rattle.plstack.specs.Arguments.{IsArgument}
 use Rattle.plstack.specs.State.{State}
 use Rattle.plmachine.specs.declared.arithmetic.Calculation.{Calculation}
@@ -37,15 +37,15 @@ pub record IsCalculation (s : State) (k : Calculation) (t : Tree) : Type 0 where
   pub is : form t ≡ BuiltIn (predicates.Arithmetic k.predicate) (bound_at s k.run left ∷ bound_at s k.run right ∷ [])
 
 -- an expression of a clause has a value
-abbrev pub HasValue : State → Run → Tree → Type 0
+abbrev pub HasValue : State → ClauseGoals → Tree → Type 0
 HasValue s r t = (i : ℤ) × (eval (bound_at s r t) ≡ Ok i)
 
 -- of at most 32 bits
-abbrev pub HasSmallValue : State → Run → Tree → Type 0
+abbrev pub HasSmallValue : State → ClauseGoals → Tree → Type 0
 HasSmallValue s r t = (i : ℤ) × (eval (bound_at s r t) ≡ Ok i) × FitsSigned w32 i
 
 -- A predicate of these two terms of a clause needs no cell: its expressions have values, and that of is/2 has at most 32 bits and is for no
 -- variable of the heap.
-abbrev pub NeedsNoCell : State → Run → Arithmetic → Tree → Tree → Type 0
+abbrev pub NeedsNoCell : State → ClauseGoals → Arithmetic → Tree → Tree → Type 0
 NeedsNoCell s r Is t u = IsOffHeap s.env r.base t × HasSmallValue s r u
 NeedsNoCell s r (Compare c) t u = HasValue s r t × HasValue s r u

@@ -19,7 +19,7 @@ use Rattle.plviews.specs.Lookups.{rest_at}
 use Rattle.plviews.specs.Views.{seen_in, sight_in, AreOrdered, Sight}
 use Rattle.plviews.specs.declared.view.View.{View}
 use Rattle.plprogram.specs.Program.{Program}
-use Rattle.plsearch.specs.Types.{Result, Stop, Fail, Throw, Halted, Spent, Element, Asking, Lookup, ToCall, ToRetrieve, ToRetract, ToRetractAll, Question, Look, Begin, Await, GoesOn, Ends, Case, Local, Move, Run}
+use Rattle.plsearch.specs.Types.{Result, Stop, Fail, Throw, Halted, Spent, Element, Asking, Lookup, ToCall, ToRetrieve, ToRetract, ToRetractAll, Question, Look, Begin, Await, GoesOn, Ends, Case, Local, Move, Supply}
 use Rattle.plsearch.specs.Types.{Then as Following}
 use Rattle.plsearch.specs.Lookups.{clause_term, has_head}
 use Rattle.plsearch.specs.Moves.{publish}
@@ -152,7 +152,7 @@ below_at v (Some g) = v g
 abbrev pub below_in : Views → Reached → List Stamped
 below_in v s = below_at v s.layer.place
 
-abbrev pub run_in : Views → ℕ → List Answer → Reached → Run
+abbrev pub run_in : Views → ℕ → List Answer → Reached → Supply
 run_in v left answers s = record { steps = left; answers = answers; below = below_in v s; local = local_of s }
 
 abbrev pub cases_in : Program → Views → Reached → List Case

@@ -18,7 +18,7 @@ use Rattle.plgoals.specs.declared.form.Procedure.{Procedure}
 use Rattle.plgoals.specs.declared.form.Procedure.TheVariants as procedures
 use Rattle.plgoals.specs.Forms.{shown_form, IsInside}
 use Rattle.plgoals.specs.Callables.{called as called_by, IsCallable, IsNoGoal}
-use Rattle.pllinks.specs.declared.item.Run.{Run}
+use Rattle.pllinks.specs.declared.item.ClauseGoals.{ClauseGoals}
 use Rattle.plstack.specs.Arguments.{IsArgument}
 use Rattle.plstack.specs.Places.{called}
 use Rattle.plstack.specs.State.{State}
@@ -29,7 +29,7 @@ use Rattle.plmachine.specs.declared.select.Source.TheVariants as sources
 use Rattle.plmachine.specs.Machine.{IsBegun}
 
 -- a term of a clause, with what stands for its variables under the slots of a run
-abbrev pub bound_at : State → Run → Tree → Tree
+abbrev pub bound_at : State → ClauseGoals → Tree → Tree
 bound_at s r t = bind (over s.env r.base) t
 
 -- the term of a goal by where it stands

@@ -11,6 +11,7 @@ ghost use Rattle.plsearch.specs.Rows.{halting, modulo_256};
 ghost use Rattle.plstack.specs.State.{goals_of, IsFit, IsList};
 ghost use Rattle.plmachine.specs.Asking.{ended_with, IsNoInteger};
 ghost use Rattle.plmachine.specs.Machine.{local_of, Moved, Stays};
+ghost use Rattle.plprogram.specs.Program.{Program as Given};
 
 use crate::error;
 use crate::machine::{Machine, Question, Then};
@@ -20,7 +21,6 @@ use plcells::cell::Cell;
 use plcells::heap::Heap;
 use plevent::request::Request;
 use pllinks::link::Continuation;
-use plprogram::program::Program;
 use plterm::term::Term;
 use std::alloc::AllocError;
 
@@ -35,37 +35,32 @@ pub enum Status {
 
 impl Machine {
     /// The end of the run, with a number as its status.
-    pub fn halt(&mut self, program: &Program, status: u8, rest: Continuation)
+    pub fn halt(&mut self, status: u8, rest: Continuation)
         requires rest { IsList self.old.stack rest }
         requires fits { IsFit self.old.stack rest }
-        ensures { Moved program.now self.old self.new (went_on (Asking (Await (HaltRun status) (Ends status)) ∷ goals_of self.old.stack rest) self.old.stack.env.count (local_of self.old)) }
+        ensures { (P : Given) → Moved P self.old self.new (went_on (Asking (Await (HaltRun status) (Ends status)) ∷ goals_of self.old.stack rest) self.old.stack.env.count (local_of self.old)) }
     {
         let request = Request::HaltRun(status);
-        self.ask(program, Question::Await(request, Then::Ends(status)), rest);
+        self.ask(Question::Await(request, Then::Ends(status)), rest);
     }
 
     /// halt/1.
     #[inline(never)]
-    pub fn halt_with(
-        &mut self,
-        program: &Program,
-        number: Cell,
-        rest: Continuation,
-    ) -> Result<(), AllocError>
+    pub fn halt_with(&mut self, number: Cell, rest: Continuation) -> Result<(), AllocError>
         requires number { IsValue self.old.stack.env.heap number }
         requires rest { IsList self.old.stack rest }
         requires fits { IsFit self.old.stack rest }
-        ensures ok { OnOk result (Moved program.now self.old self.new (halting (value self.old.stack.env.heap number) (goals_of self.old.stack rest) self.old.stack.env.count (local_of self.old))) }
-        ensures err { OnErr result (Stays program.now self.old self.new) }
+        ensures ok { (P : Given) → OnOk result (Moved P self.old self.new (halting (value self.old.stack.env.heap number) (goals_of self.old.stack rest) self.old.stack.env.count (local_of self.old))) }
+        ensures err { (P : Given) → OnErr result (Stays P self.old self.new) }
     {
         match self.status(number)? {
             Status::Is(status) => {
-                self.halt(program, status, rest);
+                self.halt(status, rest);
                 Ok(())
             }
             Status::Raises(error) => {
                 let p = Predicate::Halt.indicator(self.alloc)?;
-                self.raise(program, error, &p, rest)
+                self.raise(error, &p, rest)
             }
         }
     }

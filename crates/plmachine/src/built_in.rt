@@ -20,6 +20,7 @@ ghost use Rattle.plstack.specs.Arguments.{KeepsArguments};
 ghost use Rattle.plmachine.specs.Lists.{Grown};
 ghost use Rattle.plmachine.specs.Selected.{StandsFor};
 ghost use Rattle.plmachine.specs.Machine.{local_of, IsBegun, Moved, Stays};
+ghost use Rattle.plprogram.specs.Program.{Program as Given};
 
 use crate::indicator::indicator_of;
 use crate::machine::{Machine, Mode, Outcome};
@@ -30,7 +31,6 @@ use plcells::equation::Equation;
 use pllinks::link::Continuation;
 use plnames::kind::BuiltIn;
 use plpredicates::built_in::answers;
-use plprogram::program::Program;
 use plprogram::settings::Settings;
 use plterm::term::Term;
 use std::alloc::AllocError;
@@ -40,44 +40,42 @@ impl Machine {
     #[inline(never)]
     pub fn built_in(
         &mut self,
-        program: &Program,
         b: BuiltIn,
         source: Source,
         rest: Continuation,
     ) -> Result<(), AllocError>
-        requires begun { IsBegun program.now self.old }
+        requires begun { (P : Given) × IsBegun P self.old }
         requires visits { self.old.mode ≡ Mode.Visit }
         requires args { AreValues self.old.stack.env.heap self.old.args.items }
         requires source { (t : Tree) × StandsFor self.old.stack source t }
         requires rest { IsList self.old.stack rest }
         requires fits { IsFit self.old.stack rest }
-        ensures ok { (t : Tree) → StandsFor self.old.stack source t → OnOk result (Moved program.now self.old self.new (offer (solutions b (map (value self.old.stack.env.heap) self.old.args.items) self.old.settings self.old.stack.env.count) (indicator t) (goals_of self.old.stack rest) self.old.stack.env.count (local_of self.old))) }
-        ensures err { OnErr result (Stays program.now self.old self.new) }
+        ensures ok { (P : Given) → IsBegun P self.old → (t : Tree) → StandsFor self.old.stack source t → OnOk result (Moved P self.old self.new (offer (solutions b (map (value self.old.stack.env.heap) self.old.args.items) self.old.settings self.old.stack.env.count) (indicator t) (goals_of self.old.stack rest) self.old.stack.env.count (local_of self.old))) }
+        ensures err { (P : Given) → IsBegun P self.old → OnErr result (Stays P self.old self.new) }
     {
         let heap = self.stack.env().heap();
         let answer = answers(self.alloc, heap, &self.settings, b, &self.args)?;
-        self.carry_out(program, answer, source, rest)
+        self.carry_out(answer, source, rest)
     }
 
     /// What a call of a built-in predicate came to is carried out.
     pub(crate) fn carry_out(
         &mut self,
-        program: &Program,
         answer: Answer,
         source: Source,
         rest: Continuation,
     ) -> Result<(), AllocError>
-        requires begun { IsBegun program.now self.old }
+        requires begun { (P : Given) × IsBegun P self.old }
         requires visits { self.old.mode ≡ Mode.Visit }
         requires answer { IsThere self.old.stack.env.heap answer }
         requires source { (t : Tree) × StandsFor self.old.stack source t }
         requires rest { IsList self.old.stack rest }
         requires fits { IsFit self.old.stack rest }
-        ensures ok { (t : Tree) → StandsFor self.old.stack source t → OnOk result (Moved program.now self.old self.new (offer (meant self.old.stack.env.heap self.old.settings self.old.stack.env.count answer) (indicator t) (goals_of self.old.stack rest) self.old.stack.env.count (local_of self.old))) }
-        ensures err { OnErr result (Stays program.now self.old self.new) }
+        ensures ok { (P : Given) → IsBegun P self.old → (t : Tree) → StandsFor self.old.stack source t → OnOk result (Moved P self.old self.new (offer (meant self.old.stack.env.heap self.old.settings self.old.stack.env.count answer) (indicator t) (goals_of self.old.stack rest) self.old.stack.env.count (local_of self.old))) }
+        ensures err { (P : Given) → IsBegun P self.old → OnErr result (Stays P self.old self.new) }
     {
         match answer {
-            Answer::Raises(error) => self.raise_of(program, error, source, rest),
+            Answer::Raises(error) => self.raise_of(error, source, rest),
             Answer::Fails => {
                 self.give(Outcome::Fail);
                 Ok(())
@@ -86,15 +84,15 @@ impl Machine {
                 self.go_on(rest);
                 Ok(())
             }
-            Answer::Unifies(a, b) => self.unify(program, a, b, rest),
-            Answer::Differs(a, b) => self.differ(program, a, b, rest),
-            Answer::Equals(v, number) => self.equal(program, v, number, rest),
-            Answer::Solves(equation) => self.solve_equation(program, equation, rest),
-            Answer::Several(values, turn) => self.several(program, &values, turn, rest),
-            Answer::Groups(values, groups) => self.one_of(program, values, &groups, rest),
-            Answer::Writes(bytes) => self.write_bytes(program, &bytes, rest),
+            Answer::Unifies(a, b) => self.unify(a, b, rest),
+            Answer::Differs(a, b) => self.differ(a, b, rest),
+            Answer::Equals(v, number) => self.equal(v, number, rest),
+            Answer::Solves(equation) => self.solve_equation(equation, rest),
+            Answer::Several(values, turn) => self.several(&values, turn, rest),
+            Answer::Groups(values, groups) => self.one_of(values, &groups, rest),
+            Answer::Writes(bytes) => self.write_bytes(&bytes, rest),
             Answer::Sets(settings) => {
-                self.set(program, settings, rest);
+                self.set(settings, rest);
                 Ok(())
             }
         }
@@ -103,37 +101,30 @@ impl Machine {
     /// Raises an error of the predicate of a goal.
     pub(crate) fn raise_of(
         &mut self,
-        program: &Program,
         error: Term,
         source: Source,
         rest: Continuation,
     ) -> Result<(), AllocError>
-        requires begun { IsBegun program.now self.old }
+        requires begun { (P : Given) × IsBegun P self.old }
         requires source { (t : Tree) × StandsFor self.old.stack source t }
         requires rest { IsList self.old.stack rest }
         requires fits { IsFit self.old.stack rest }
-        ensures ok { (t : Tree) → StandsFor self.old.stack source t → OnOk result (Moved program.now self.old self.new (raised error (indicator t) (goals_of self.old.stack rest) (local_of self.old))) }
-        ensures err { OnErr result (Stays program.now self.old self.new) }
+        ensures ok { (P : Given) → IsBegun P self.old → (t : Tree) → StandsFor self.old.stack source t → OnOk result (Moved P self.old self.new (raised error (indicator t) (goals_of self.old.stack rest) (local_of self.old))) }
+        ensures err { (P : Given) → IsBegun P self.old → OnErr result (Stays P self.old self.new) }
     {
         let goal = self.goal(source)?;
         let p = indicator_of(self.alloc, self.stack.env().heap(), &goal)?;
-        self.raise(program, error, &p, rest)
+        self.raise(error, &p, rest)
     }
 
     /// Two terms are unified: the one solution of a built-in predicate.
-    fn unify(
-        &mut self,
-        program: &Program,
-        a: Cell,
-        b: Cell,
-        rest: Continuation,
-    ) -> Result<(), AllocError>
+    fn unify(&mut self, a: Cell, b: Cell, rest: Continuation) -> Result<(), AllocError>
         requires first { IsValue self.old.stack.env.heap a }
         requires second { IsValue self.old.stack.env.heap b }
         requires rest { IsList self.old.stack rest }
         requires fits { IsFit self.old.stack rest }
-        ensures ok { OnOk result (Moved program.now self.old self.new (taken (solved (goals_of self.old.stack rest) self.old.stack.env.count (record { left = value self.old.stack.env.heap a; right = value self.old.stack.env.heap b; new = 0 })) (local_of self.old))) }
-        ensures err { OnErr result (Stays program.now self.old self.new) }
+        ensures ok { (P : Given) → OnOk result (Moved P self.old self.new (taken (solved (goals_of self.old.stack rest) self.old.stack.env.count (record { left = value self.old.stack.env.heap a; right = value self.old.stack.env.heap b; new = 0 })) (local_of self.old))) }
+        ensures err { (P : Given) → OnErr result (Stays P self.old self.new) }
     {
         if self.stack.unify(a, b)? {
             self.go_on(rest);
@@ -144,21 +135,15 @@ impl Machine {
     }
 
     /// A term is unified with an integer: the one solution of a built-in predicate.
-    fn equal(
-        &mut self,
-        program: &Program,
-        v: Cell,
-        number: i64,
-        rest: Continuation,
-    ) -> Result<(), AllocError>
+    fn equal(&mut self, v: Cell, number: i64, rest: Continuation) -> Result<(), AllocError>
         requires value { IsValue self.old.stack.env.heap v }
         requires rest { IsList self.old.stack rest }
         requires fits { IsFit self.old.stack rest }
-        ensures ok { OnOk result (Moved program.now self.old self.new (taken (solved (goals_of self.old.stack rest) self.old.stack.env.count (record { left = value self.old.stack.env.heap v; right = int number; new = 0 })) (local_of self.old))) }
-        ensures err { OnErr result (Stays program.now self.old self.new) }
+        ensures ok { (P : Given) → OnOk result (Moved P self.old self.new (taken (solved (goals_of self.old.stack rest) self.old.stack.env.count (record { left = value self.old.stack.env.heap v; right = int number; new = 0 })) (local_of self.old))) }
+        ensures err { (P : Given) → OnErr result (Stays P self.old self.new) }
     {
         let w = self.integer(number)?;
-        self.unify(program, v, w, rest)
+        self.unify(v, w, rest)
     }
 
     /// The value of an integer. One of at most 32 bits needs nothing.
@@ -178,17 +163,12 @@ impl Machine {
     }
 
     /// The two terms of an equation are unified: the one solution of a built-in predicate.
-    fn solve_equation(
-        &mut self,
-        program: &Program,
-        equation: Equation,
-        rest: Continuation,
-    ) -> Result<(), AllocError>
+    fn solve_equation(&mut self, equation: Equation, rest: Continuation) -> Result<(), AllocError>
         requires equation { IsEquation self.old.stack.env.heap equation }
         requires rest { IsList self.old.stack rest }
         requires fits { IsFit self.old.stack rest }
-        ensures ok { OnOk result (Moved program.now self.old self.new (taken (solved (goals_of self.old.stack rest) self.old.stack.env.count (record { left = left_of self.old.stack.env.heap self.old.stack.env.count equation; right = right_of self.old.stack.env.heap self.old.stack.env.count equation; new = equation.new })) (local_of self.old))) }
-        ensures err { OnErr result (Stays program.now self.old self.new) }
+        ensures ok { (P : Given) → OnOk result (Moved P self.old self.new (taken (solved (goals_of self.old.stack rest) self.old.stack.env.count (record { left = left_of self.old.stack.env.heap self.old.stack.env.count equation; right = right_of self.old.stack.env.heap self.old.stack.env.count equation; new = equation.new })) (local_of self.old))) }
+        ensures err { (P : Given) → OnErr result (Stays P self.old self.new) }
     {
         if self.stack.solve(self.alloc, equation)? {
             self.go_on(rest);
@@ -199,19 +179,13 @@ impl Machine {
     }
 
     /// Two terms are not unified: a built-in predicate that is true where they have no unifier.
-    fn differ(
-        &mut self,
-        program: &Program,
-        a: Cell,
-        b: Cell,
-        rest: Continuation,
-    ) -> Result<(), AllocError>
+    fn differ(&mut self, a: Cell, b: Cell, rest: Continuation) -> Result<(), AllocError>
         requires first { IsValue self.old.stack.env.heap a }
         requires second { IsValue self.old.stack.env.heap b }
         requires rest { IsList self.old.stack rest }
         requires fits { IsFit self.old.stack rest }
-        ensures ok { (p : Indicator) → OnOk result (Moved program.now self.old self.new (offer (decides (is_none (unify (value self.old.stack.env.heap a) (value self.old.stack.env.heap b))) self.old.settings) p (goals_of self.old.stack rest) self.old.stack.env.count (local_of self.old))) }
-        ensures err { OnErr result (Stays program.now self.old self.new) }
+        ensures ok { (P : Given) → (p : Indicator) → OnOk result (Moved P self.old self.new (offer (decides (is_none (unify (value self.old.stack.env.heap a) (value self.old.stack.env.heap b))) self.old.settings) p (goals_of self.old.stack rest) self.old.stack.env.count (local_of self.old))) }
+        ensures err { (P : Given) → OnErr result (Stays P self.old self.new) }
     {
         if self.stack.unify(a, b)? {
             self.give(Outcome::Fail);
@@ -222,16 +196,11 @@ impl Machine {
     }
 
     /// Writes bytes, and goes on.
-    fn write_bytes(
-        &mut self,
-        program: &Program,
-        bytes: &[u8],
-        rest: Continuation,
-    ) -> Result<(), AllocError>
+    fn write_bytes(&mut self, bytes: &[u8], rest: Continuation) -> Result<(), AllocError>
         requires rest { IsList self.old.stack rest }
         requires fits { IsFit self.old.stack rest }
-        ensures ok { OnOk result (Moved program.now self.old self.new (went_on (goals_of self.old.stack rest) self.old.stack.env.count (record (local_of self.old) { out = (local_of self.old).out ++ bytes.now }))) }
-        ensures err { OnErr result (Stays program.now self.old self.new) }
+        ensures ok { (P : Given) → OnOk result (Moved P self.old self.new (went_on (goals_of self.old.stack rest) self.old.stack.env.count (record (local_of self.old) { out = (local_of self.old).out ++ bytes.now }))) }
+        ensures err { (P : Given) → OnErr result (Stays P self.old self.new) }
     {
         self.out.extend_from_slice(bytes)?;
         self.go_on(rest);
@@ -239,10 +208,10 @@ impl Machine {
     }
 
     /// Takes other operators and flags, and goes on.
-    fn set(&mut self, program: &Program, settings: Settings, rest: Continuation)
+    fn set(&mut self, settings: Settings, rest: Continuation)
         requires rest { IsList self.old.stack rest }
         requires fits { IsFit self.old.stack rest }
-        ensures { Moved program.now self.old self.new (went_on (goals_of self.old.stack rest) self.old.stack.env.count (record (local_of self.old) { settings = settings })) }
+        ensures { (P : Given) → Moved P self.old self.new (went_on (goals_of self.old.stack rest) self.old.stack.env.count (record (local_of self.old) { settings = settings })) }
     {
         self.settings = settings;
         self.go_on(rest);

@@ -64,11 +64,11 @@ impl Machine {
         match clause_with(self.alloc, term, self.stack.truth())? {
             ClauseForm::NoHead => {
                 let error = error::instantiation(self.alloc)?;
-                self.raise_of(program, error, source, rest)
+                self.raise_of(error, source, rest)
             }
             ClauseForm::BadHead(culprit) | ClauseForm::BadBody(culprit) => {
                 let error = error::not_callable(self.alloc, culprit)?;
-                self.raise_of(program, error, source, rest)
+                self.raise_of(error, source, rest)
             }
             ClauseForm::IsClause(clause) => self.add_clause(program, side, clause, source, rest),
         }
@@ -93,9 +93,9 @@ impl Machine {
     {
         let procedure = clause.indicator()?;
         if let Some(error) = unchangeable(self.alloc, program, &procedure)? {
-            return self.raise_of(program, error, source, rest);
+            return self.raise_of(error, source, rest);
         }
-        self.publish_one(program, update_of(side, clause), rest)
+        self.publish_one(update_of(side, clause), rest)
     }
 
     /// clause/2.
@@ -120,7 +120,7 @@ impl Machine {
     {
         let heap = self.stack.env().heap();
         if let Some(error) = not_told(self.alloc, program, heap, &head, &body)? {
-            return self.raise_of(program, error, source, rest);
+            return self.raise_of(error, source, rest);
         }
         self.retrieve_all(program, head, body, rest)
     }
@@ -143,9 +143,9 @@ impl Machine {
     {
         let p = indicator_of(self.alloc, self.stack.env().heap(), &head)?;
         if program.clauses_of(&p).is_empty() {
-            return self.seek(program, Lookup::ToRetrieve(head, body), rest);
+            return self.seek(Lookup::ToRetrieve(head, body), rest);
         }
-        self.tell(program, Neck { head, body }, Use::Tell, Spot::Text(0), rest)
+        self.tell(Neck { head, body }, Use::Tell, Spot::Text(0), rest)
     }
 
     /// retract/1.
@@ -171,13 +171,13 @@ impl Machine {
         let parts = neck;
         let head = parts.map_or(c, |parts| parts.head);
         if let Some(error) = unerasable(self.alloc, program, heap, &head)? {
-            return self.raise_of(program, error, source, rest);
+            return self.raise_of(error, source, rest);
         }
         let body = match neck {
             Some(neck) => neck.body,
             None => self.stack.put_true()?,
         };
-        self.seek(program, Lookup::ToRetract(head, body), rest)
+        self.seek(Lookup::ToRetract(head, body), rest)
     }
 
     /// retractall/1.
@@ -200,9 +200,9 @@ impl Machine {
     {
         let heap = self.stack.env().heap();
         if let Some(error) = unerasable(self.alloc, program, heap, &head)? {
-            return self.raise_of(program, error, source, rest);
+            return self.raise_of(error, source, rest);
         }
-        self.seek(program, Lookup::ToRetractAll(head), rest)
+        self.seek(Lookup::ToRetractAll(head), rest)
     }
 
     /// dynamic/1.
@@ -226,8 +226,8 @@ impl Machine {
         let term = self.stack.env().heap().take(self.alloc, names)?;
         let terms = named_terms(self.alloc, &term.root())?;
         match declared(self.alloc, program, &terms)? {
-            Declaration::Refused(error) => self.raise_of(program, error, source, rest),
-            Declaration::Updates(updates) => self.publish(program, updates, rest),
+            Declaration::Refused(error) => self.raise_of(error, source, rest),
+            Declaration::Updates(updates) => self.publish(updates, rest),
         }
     }
 }

@@ -13,6 +13,7 @@ ghost use Rattle.plsearch.specs.Rows.{finding as finding_of, findall_3, gatherin
 ghost use Rattle.plstack.specs.State.{goals_of, Extends, IsFit, IsList};
 ghost use Rattle.plmachine.specs.Gathering.{Gathers};
 ghost use Rattle.plmachine.specs.Machine.{depth_of, local_of, Moved, Stays};
+ghost use Rattle.plprogram.specs.Program.{Program as Given};
 
 use crate::machine::Machine;
 use crate::predicate::Predicate;
@@ -20,10 +21,9 @@ use crate::running::Running;
 use planswers::error::type_error;
 use planswers::list::may_be_list;
 use plcells::cell::Cell;
-use pllinks::item::{Item, MarkerKind};
+use pllinks::item::{Portion, MarkerKind};
 use pllinks::level::Level;
 use pllinks::link::Continuation;
-use plprogram::program::Program;
 use plstack::frame::{Around, Handler, Handling};
 use std::alloc::{AllocError, Global};
 
@@ -40,49 +40,39 @@ pub struct Finding {
 impl Machine {
     /// findall/3.
     #[inline(never)]
-    pub fn find_all(
-        &mut self,
-        program: &Program,
-        finding: Finding,
-        rest: Continuation,
-    ) -> Result<(), AllocError>
+    pub fn find_all(&mut self, finding: Finding, rest: Continuation) -> Result<(), AllocError>
         requires template { IsValue self.old.stack.env.heap finding.template }
         requires goal { IsValue self.old.stack.env.heap finding.goal }
         requires whole { IsValue self.old.stack.env.heap finding.whole }
         requires rest { IsList self.old.stack rest }
         requires fits { IsFit self.old.stack rest }
-        ensures ok { OnOk result (Moved program.now self.old self.new (finding_of (value self.old.stack.env.heap finding.template) (value self.old.stack.env.heap finding.goal) (value self.old.stack.env.heap finding.whole) (depth_of self.old) (goals_of self.old.stack rest) self.old.stack.env.count (local_of self.old))) }
-        ensures err { OnErr result (Stays program.now self.old self.new) }
+        ensures ok { (P : Given) → OnOk result (Moved P self.old self.new (finding_of (value self.old.stack.env.heap finding.template) (value self.old.stack.env.heap finding.goal) (value self.old.stack.env.heap finding.whole) (depth_of self.old) (goals_of self.old.stack rest) self.old.stack.env.count (local_of self.old))) }
+        ensures err { (P : Given) → OnErr result (Stays P self.old self.new) }
     {
         let heap = self.stack.env().heap();
         if may_be_list(heap, finding.whole) {
-            return self.collecting(program, finding, rest);
+            return self.collecting(finding, rest);
         }
         let error = type_error(self.alloc, heap, "list", finding.whole)?;
         let p = Predicate::FindAll.indicator(self.alloc)?;
-        self.raise(program, error, &p, rest)
+        self.raise(error, &p, rest)
     }
 
     /// The goal of findall/3 is run, before a marker that collects, in a handler that gathers what was kept.
-    fn collecting(
-        &mut self,
-        program: &Program,
-        finding: Finding,
-        rest: Continuation,
-    ) -> Result<(), AllocError>
+    fn collecting(&mut self, finding: Finding, rest: Continuation) -> Result<(), AllocError>
         requires template { IsValue self.old.stack.env.heap finding.template }
         requires goal { IsValue self.old.stack.env.heap finding.goal }
         requires whole { IsValue self.old.stack.env.heap finding.whole }
         requires rest { IsList self.old.stack rest }
         requires fits { IsFit self.old.stack rest }
-        ensures ok { OnOk result (Moved program.now self.old self.new (runs (runnable (value self.old.stack.env.heap finding.goal)) findall_3 (gathering (value self.old.stack.env.heap finding.whole) (goals_of self.old.stack rest) self.old.stack.env.count ∷ []) (suc (depth_of self.old)) (Marker (Collect (value self.old.stack.env.heap finding.template)) (depth_of self.old) ∷ goals_of self.old.stack rest) self.old.stack.env.count (local_of self.old))) }
-        ensures err { OnErr result (Stays program.now self.old self.new) }
+        ensures ok { (P : Given) → OnOk result (Moved P self.old self.new (runs (runnable (value self.old.stack.env.heap finding.goal)) findall_3 (gathering (value self.old.stack.env.heap finding.whole) (goals_of self.old.stack rest) self.old.stack.env.count ∷ []) (suc (depth_of self.old)) (Marker (Collect (value self.old.stack.env.heap finding.template)) (depth_of self.old) ∷ goals_of self.old.stack rest) self.old.stack.env.count (local_of self.old))) }
+        ensures err { (P : Given) → OnErr result (Stays P self.old self.new) }
     {
         let depth = self.stack.depth();
         let Some(level) = depth.up(1) else {
             return Err(AllocError);
         };
-        let marker = Item::Marker(MarkerKind::Collect(finding.template), depth);
+        let marker = Portion::Marker(MarkerKind::Collect(finding.template), depth);
         let (ready, list) = self.ready_before(finding.goal, marker, &rest)?;
         let how = Running {
             predicate: Predicate::FindAll,
@@ -93,7 +83,7 @@ impl Machine {
             level,
             list,
         };
-        self.run(program, ready, how)
+        self.run(ready, how)
     }
 
     /// Unifies the list of the copies that are kept from a level on, their variables new, with the term of a value: whether they have a

@@ -3,28 +3,28 @@ ghost use Rattle.std.specs.Prelude.{◌≡◌, ◌++◌, IfOk};
 ghost use Rattle.plstack.specs.State.{goals_of, IsList};
 ghost use Rattle.plmachine.specs.Lists.{at_level, branch_at, elements_of, failing, Holds, IsPart, Lengthened};
 
-use pllinks::item::{Item, Run};
+use pllinks::item::{Portion, ClauseGoals};
 use pllinks::level::Level;
 use pllinks::link::Continuation;
 use plstack::stack::Stack;
 use std::alloc::AllocError;
 
 /// Goals at another cut level.
-pub fn at_level(item: Item, level: Level) -> Item
+pub fn at_level(item: Portion, level: Level) -> Portion
     ensures { result ≡ at_level level item }
 {
     match item {
-        Item::Run(run) => Item::Run(Run { level, ..run }),
-        Item::Goal(_, v) => Item::Goal(level, v),
-        Item::Marker(kind, of) => Item::Marker(kind, of),
+        Portion::Clause(run) => Portion::Clause(ClauseGoals { level, ..run }),
+        Portion::Goal(_, v) => Portion::Goal(level, v),
+        Portion::Marker(kind, of) => Portion::Marker(kind, of),
     }
 }
 
 /// The goal fail/0 of a cut level, by its place in each program's code.
-pub fn failure(level: Level) -> Item
+pub fn failure(level: Level) -> Portion
     ensures { result ≡ failing level }
 {
-    Item::Run(Run {
+    Portion::Clause(ClauseGoals {
         position: 1,
         owed: 0,
         base: 0,
@@ -34,10 +34,10 @@ pub fn failure(level: Level) -> Item
 }
 
 /// A branch of a goal of a clause's body, by the place where it begins.
-pub fn branch(run: &Run, place: u32) -> Item
+pub fn branch(run: &ClauseGoals, place: u32) -> Portion
     ensures { result ≡ branch_at run.now place }
 {
-    Item::Run(Run {
+    Portion::Clause(ClauseGoals {
         position: place,
         owed: 0,
         ..*run
@@ -45,13 +45,13 @@ pub fn branch(run: &Run, place: u32) -> Item
 }
 
 /// A new list: an item before a list that is there.
-pub fn before(stack: &mut Stack, item: Item, rest: Continuation) -> Result<Continuation, AllocError>
+pub fn before(stack: &mut Stack, item: Portion, rest: Continuation) -> Result<Continuation, AllocError>
     requires item { IsPart stack.old item }
     requires rest { IsList stack.old rest }
     ensures ok { IfOk result (λ l. Holds stack.new l (elements_of stack.old item ++ goals_of stack.old rest)) }
     ensures grows { Lengthened stack.old stack.new }
 {
-    if let Item::Run(run) = item {
+    if let Portion::Clause(run) = item {
         return stack.before(run, rest);
     }
     stack.link(item, rest)
@@ -60,8 +60,8 @@ pub fn before(stack: &mut Stack, item: Item, rest: Continuation) -> Result<Conti
 /// A new list: two items before a list that is there.
 pub fn two_in_turn(
     stack: &mut Stack,
-    first: Item,
-    second: Item,
+    first: Portion,
+    second: Portion,
     rest: Continuation,
 ) -> Result<Continuation, AllocError>
     requires first { IsPart stack.old first }
@@ -77,8 +77,8 @@ pub fn two_in_turn(
 /// Two new lists: each of two items before a list that is there.
 pub fn two_before(
     stack: &mut Stack,
-    first: Item,
-    second: Item,
+    first: Portion,
+    second: Portion,
     rest: Continuation,
 ) -> Result<(Continuation, Continuation), AllocError>
     requires first { IsPart stack.old first }

@@ -14,6 +14,7 @@ ghost use Rattle.plstack.specs.State.{cases_of, goals_of, kinds_in, IsFit, IsLis
 ghost use Rattle.plstack.specs.Opening.{around_cases, branch_of, IsAround};
 ghost use Rattle.plmachine.specs.Lists.{at_level, elements_of, AreGoals, IsPart};
 ghost use Rattle.plmachine.specs.Machine.{depth_of, is_var, element_of, local_of, IsAskable, IsBegun, Moved, Stays};
+ghost use Rattle.plprogram.specs.Program.{Program as Given};
 
 use crate::error;
 use crate::list::{at_level, failure, two_before, two_in_turn};
@@ -21,10 +22,9 @@ use crate::machine::{Machine, Mode, Outcome, Question};
 use crate::predicate::Predicate;
 use plcells::cell::Cell;
 use plcells::heap::Heap;
-use pllinks::item::{Item, MarkerKind};
+use pllinks::item::{Portion, MarkerKind};
 use pllinks::level::Level;
 use pllinks::link::Continuation;
-use plprogram::program::Program;
 use plstack::frame::Around;
 use plterm::indicator::Indicator;
 use plterm::term::Term;
@@ -64,15 +64,14 @@ impl Machine {
     #[inline(never)]
     pub fn raise(
         &mut self,
-        program: &Program,
         error: Term,
         p: &Indicator,
         rest: Continuation,
     ) -> Result<(), AllocError>
         requires rest { IsList self.old.stack rest }
         requires fits { IsFit self.old.stack rest }
-        ensures ok { OnOk result (Moved program.now self.old self.new (raised error p.now (goals_of self.old.stack rest) (local_of self.old))) }
-        ensures err { OnErr result (Stays program.now self.old self.new) }
+        ensures ok { (P : Given) → OnOk result (Moved P self.old self.new (raised error p.now (goals_of self.old.stack rest) (local_of self.old))) }
+        ensures err { (P : Given) → OnErr result (Stays P self.old self.new) }
     {
         let ball = error::ball(self.alloc, error, p)?;
         let levels = self.stack.levels(self.alloc, rest)?;
@@ -81,29 +80,24 @@ impl Machine {
     }
 
     /// Asks something before a list.
-    pub fn ask(&mut self, program: &Program, question: Question, rest: Continuation)
+    pub fn ask(&mut self, question: Question, rest: Continuation)
         requires askable { IsAskable self.old.layer.own (record self.old.stack { goals = rest }) question }
         requires rest { IsList self.old.stack rest }
         requires fits { IsFit self.old.stack rest }
-        ensures { Moved program.now self.old self.new (went_on (element_of self.old.stack.env.heap question ∷ goals_of self.old.stack rest) self.old.stack.env.count (local_of self.old)) }
+        ensures { (P : Given) → Moved P self.old self.new (went_on (element_of self.old.stack.env.heap question ∷ goals_of self.old.stack rest) self.old.stack.env.count (local_of self.old)) }
     {
         self.stack.visit(rest);
         self.mode = Mode::Ask(question);
     }
 
     /// Opens a choice of a list, and visits another in it.
-    fn enter_branch(
-        &mut self,
-        program: &Program,
-        list: Continuation,
-        other: Continuation,
-    ) -> Result<(), AllocError>
+    fn enter_branch(&mut self, list: Continuation, other: Continuation) -> Result<(), AllocError>
         requires list { IsList self.old.stack list }
         requires other { IsList self.old.stack other }
         requires list_fits { IsFit self.old.stack list }
         requires other_fits { IsFit self.old.stack other }
-        ensures ok { OnOk result (Moved program.now self.old self.new (Go (branch_of self.old.stack other ∷ []) (record { goals = goals_of self.old.stack list; variables = self.old.stack.env.count }) (local_of self.old))) }
-        ensures err { OnErr result (Stays program.now self.old self.new) }
+        ensures ok { (P : Given) → OnOk result (Moved P self.old self.new (Go (branch_of self.old.stack other ∷ []) (record { goals = goals_of self.old.stack list; variables = self.old.stack.env.count }) (local_of self.old))) }
+        ensures err { (P : Given) → OnErr result (Stays P self.old self.new) }
     {
         self.stack.open_branch(other)?;
         self.go_on(list);
@@ -111,17 +105,12 @@ impl Machine {
     }
 
     /// Opens a choice with nothing left in other cases, and visits a list in it.
-    pub fn enter(
-        &mut self,
-        program: &Program,
-        list: Continuation,
-        around: Around,
-    ) -> Result<(), AllocError>
+    pub fn enter(&mut self, list: Continuation, around: Around) -> Result<(), AllocError>
         requires list { IsList self.old.stack list }
         requires around { IsAround self.old.stack around }
         requires fits { FitsIn (kinds (Choice [] ∷ around_cases self.old.stack around) ++ kinds_in self.old.stack) (goals_of self.old.stack list) }
-        ensures ok { OnOk result (Moved program.now self.old self.new (Go (Choice [] ∷ around_cases self.old.stack around) (record { goals = goals_of self.old.stack list; variables = self.old.stack.env.count }) (local_of self.old))) }
-        ensures err { OnErr result (Stays program.now self.old self.new) }
+        ensures ok { (P : Given) → OnOk result (Moved P self.old self.new (Go (Choice [] ∷ around_cases self.old.stack around) (record { goals = goals_of self.old.stack list; variables = self.old.stack.env.count }) (local_of self.old))) }
+        ensures err { (P : Given) → OnErr result (Stays P self.old self.new) }
     {
         self.stack.open_run(around)?;
         self.go_on(list);
@@ -130,19 +119,13 @@ impl Machine {
 
     /// A conjunction.
     #[inline(never)]
-    pub fn both(
-        &mut self,
-        program: &Program,
-        first: Item,
-        second: Item,
-        rest: Continuation,
-    ) -> Result<(), AllocError>
+    pub fn both(&mut self, first: Portion, second: Portion, rest: Continuation) -> Result<(), AllocError>
         requires first { IsPart self.old.stack first }
         requires second { IsPart self.old.stack second }
         requires rest { IsList self.old.stack rest }
         requires fits { FitsIn (kinds_in self.old.stack) (elements_of self.old.stack first ++ (elements_of self.old.stack second ++ goals_of self.old.stack rest)) }
-        ensures ok { OnOk result (Moved program.now self.old self.new (went_on (elements_of self.old.stack first ++ (elements_of self.old.stack second ++ goals_of self.old.stack rest)) self.old.stack.env.count (local_of self.old))) }
-        ensures err { OnErr result (Stays program.now self.old self.new) }
+        ensures ok { (P : Given) → OnOk result (Moved P self.old self.new (went_on (elements_of self.old.stack first ++ (elements_of self.old.stack second ++ goals_of self.old.stack rest)) self.old.stack.env.count (local_of self.old))) }
+        ensures err { (P : Given) → OnErr result (Stays P self.old self.new) }
     {
         let list = two_in_turn(&mut self.stack, first, second, rest)?;
         self.go_on(list);
@@ -153,9 +136,8 @@ impl Machine {
     #[inline(never)]
     pub fn either(
         &mut self,
-        program: &Program,
-        first: Item,
-        second: Item,
+        first: Portion,
+        second: Portion,
         rest: Continuation,
     ) -> Result<(), AllocError>
         requires first { IsPart self.old.stack first }
@@ -163,21 +145,20 @@ impl Machine {
         requires rest { IsList self.old.stack rest }
         requires first_fits { FitsIn (kinds_in self.old.stack) (elements_of self.old.stack first ++ goals_of self.old.stack rest) }
         requires second_fits { FitsIn (kinds_in self.old.stack) (elements_of self.old.stack second ++ goals_of self.old.stack rest) }
-        ensures ok { OnOk result (Moved program.now self.old self.new (Go (branch (elements_of self.old.stack second ++ goals_of self.old.stack rest) self.old.stack.env.count ∷ []) (record { goals = elements_of self.old.stack first ++ goals_of self.old.stack rest; variables = self.old.stack.env.count }) (local_of self.old))) }
-        ensures err { OnErr result (Stays program.now self.old self.new) }
+        ensures ok { (P : Given) → OnOk result (Moved P self.old self.new (Go (branch (elements_of self.old.stack second ++ goals_of self.old.stack rest) self.old.stack.env.count ∷ []) (record { goals = elements_of self.old.stack first ++ goals_of self.old.stack rest; variables = self.old.stack.env.count }) (local_of self.old))) }
+        ensures err { (P : Given) → OnErr result (Stays P self.old self.new) }
     {
         let (list, other) = two_before(&mut self.stack, first, second, rest)?;
-        self.enter_branch(program, list, other)
+        self.enter_branch(list, other)
     }
 
     /// A condition, what follows it, and what is done where it fails.
     #[inline(never)]
     pub fn then_else(
         &mut self,
-        program: &Program,
-        condition: Item,
-        then: Item,
-        other: Item,
+        condition: Portion,
+        then: Portion,
+        other: Portion,
         rest: Continuation,
     ) -> Result<(), AllocError>
         requires condition { IsPart self.old.stack condition }
@@ -187,57 +168,51 @@ impl Machine {
         requires goals { AreGoals condition }
         requires then_fits { FitsIn (kinds_in self.old.stack) (elements_of self.old.stack then ++ goals_of self.old.stack rest) }
         requires other_fits { FitsIn (kinds_in self.old.stack) (elements_of self.old.stack other ++ goals_of self.old.stack rest) }
-        ensures ok { OnOk result (Moved program.now self.old self.new (Go (Choice [] ∷ branch (elements_of self.old.stack other ++ goals_of self.old.stack rest) self.old.stack.env.count ∷ []) (record { goals = elements_of self.old.stack (at_level (suc (depth_of self.old)) condition) ++ (Marker Commit (depth_of self.old) ∷ (elements_of self.old.stack then ++ goals_of self.old.stack rest)); variables = self.old.stack.env.count }) (local_of self.old))) }
-        ensures err { OnErr result (Stays program.now self.old self.new) }
+        ensures ok { (P : Given) → OnOk result (Moved P self.old self.new (Go (Choice [] ∷ branch (elements_of self.old.stack other ++ goals_of self.old.stack rest) self.old.stack.env.count ∷ []) (record { goals = elements_of self.old.stack (at_level (suc (depth_of self.old)) condition) ++ (Marker Commit (depth_of self.old) ∷ (elements_of self.old.stack then ++ goals_of self.old.stack rest)); variables = self.old.stack.env.count }) (local_of self.old))) }
+        ensures err { (P : Given) → OnErr result (Stays P self.old self.new) }
     {
         let depth = self.stack.depth();
         let Some(inner) = depth.up(1) else {
             return Err(AllocError);
         };
         let (following, failing) = two_before(&mut self.stack, then, other, rest)?;
-        let marker = Item::Marker(MarkerKind::Commit, depth);
+        let marker = Portion::Marker(MarkerKind::Commit, depth);
         let list = two_in_turn(
             &mut self.stack,
             at_level(condition, inner),
             marker,
             following,
         )?;
-        self.enter(program, list, Around::Branch(failing))
+        self.enter(list, Around::Branch(failing))
     }
 
     /// A condition and what follows it, in place of which there is failure.
     pub fn then(
         &mut self,
-        program: &Program,
         level: Level,
-        condition: Item,
-        then: Item,
+        condition: Portion,
+        then: Portion,
         rest: Continuation,
     ) -> Result<(), AllocError>
-        requires begun { IsBegun program.now self.old }
+        requires begun { (P : Given) × IsBegun P self.old }
         requires condition { IsPart self.old.stack condition }
         requires then { IsPart self.old.stack then }
         requires rest { IsList self.old.stack rest }
         requires goals { AreGoals condition }
         requires then_fits { FitsIn (kinds_in self.old.stack) (elements_of self.old.stack then ++ goals_of self.old.stack rest) }
         requires level { Precedes (kinds_in self.old.stack) level (goals_of self.old.stack rest) }
-        ensures ok { OnOk result (Moved program.now self.old self.new (Go (Choice [] ∷ branch (Goal level (atom (codes "fail")) ∷ goals_of self.old.stack rest) self.old.stack.env.count ∷ []) (record { goals = elements_of self.old.stack (at_level (suc (depth_of self.old)) condition) ++ (Marker Commit (depth_of self.old) ∷ (elements_of self.old.stack then ++ goals_of self.old.stack rest)); variables = self.old.stack.env.count }) (local_of self.old))) }
-        ensures err { OnErr result (Stays program.now self.old self.new) }
+        ensures ok { (P : Given) → IsBegun P self.old → OnOk result (Moved P self.old self.new (Go (Choice [] ∷ branch (Goal level (atom (codes "fail")) ∷ goals_of self.old.stack rest) self.old.stack.env.count ∷ []) (record { goals = elements_of self.old.stack (at_level (suc (depth_of self.old)) condition) ++ (Marker Commit (depth_of self.old) ∷ (elements_of self.old.stack then ++ goals_of self.old.stack rest)); variables = self.old.stack.env.count }) (local_of self.old))) }
+        ensures err { (P : Given) → IsBegun P self.old → OnErr result (Stays P self.old self.new) }
     {
-        self.then_else(program, condition, then, failure(level), rest)
+        self.then_else(condition, then, failure(level), rest)
     }
 
     /// `!`/0 of a goal with a cut level.
-    pub fn cut(
-        &mut self,
-        program: &Program,
-        level: Level,
-        rest: Continuation,
-    ) -> Result<(), AllocError>
+    pub fn cut(&mut self, level: Level, rest: Continuation) -> Result<(), AllocError>
         requires rest { IsList self.old.stack rest }
         requires level { Precedes (kinds_in self.old.stack) level (goals_of self.old.stack rest) }
-        ensures ok { OnOk result (Moved program.now self.old self.new (Go (Mark level ∷ []) (record { goals = goals_of self.old.stack rest; variables = self.old.stack.env.count }) (local_of self.old))) }
-        ensures err { OnErr result (Stays program.now self.old self.new) }
+        ensures ok { (P : Given) → OnOk result (Moved P self.old self.new (Go (Mark level ∷ []) (record { goals = goals_of self.old.stack rest; variables = self.old.stack.env.count }) (local_of self.old))) }
+        ensures err { (P : Given) → OnErr result (Stays P self.old self.new) }
     {
         self.stack.cut(level, rest)?;
         self.mode = Mode::Visit;
@@ -246,22 +221,17 @@ impl Machine {
 
     /// throw/1.
     #[inline(never)]
-    pub fn throw(
-        &mut self,
-        program: &Program,
-        ball: Cell,
-        rest: Continuation,
-    ) -> Result<(), AllocError>
+    pub fn throw(&mut self, ball: Cell, rest: Continuation) -> Result<(), AllocError>
         requires ball { IsValue self.old.stack.env.heap ball }
         requires rest { IsList self.old.stack rest }
         requires fits { IsFit self.old.stack rest }
-        ensures ok { OnOk result (Moved program.now self.old self.new (thrown (value self.old.stack.env.heap ball) (goals_of self.old.stack rest) (local_of self.old))) }
-        ensures err { OnErr result (Stays program.now self.old self.new) }
+        ensures ok { (P : Given) → OnOk result (Moved P self.old self.new (thrown (value self.old.stack.env.heap ball) (goals_of self.old.stack rest) (local_of self.old))) }
+        ensures err { (P : Given) → OnErr result (Stays P self.old self.new) }
     {
         if is_variable(self.stack.env().heap(), &ball) {
             let p = Predicate::Throw.indicator(self.alloc)?;
             let error = error::instantiation(self.alloc)?;
-            return self.raise(program, error, &p, rest);
+            return self.raise(error, &p, rest);
         }
         let term = self.stack.env().heap().take(self.alloc, ball)?;
         let copy = term.copy(self.alloc, 0)?;

@@ -17,6 +17,7 @@ ghost use Rattle.plmachine.specs.Lists.{elements_of, Grown, Holds, IsPart};
 ghost use Rattle.plmachine.specs.Predicates.{predicate_of};
 ghost use Rattle.plmachine.specs.Running.{ready_as, IsReady, IsRunning, Readies};
 ghost use Rattle.plmachine.specs.Machine.{depth_of, local_of, Moved, Stays};
+ghost use Rattle.plprogram.specs.Program.{Program as Given};
 
 use crate::error;
 use crate::machine::{Machine, Outcome};
@@ -24,10 +25,9 @@ use crate::predicate::Predicate;
 use crate::rows::is_variable;
 use plcells::cell::Cell;
 use plgoals::extend::Extended;
-use pllinks::item::{Item, MarkerKind};
+use pllinks::item::{Portion, MarkerKind};
 use pllinks::level::Level;
 use pllinks::link::Continuation;
-use plprogram::program::Program;
 use plstack::frame::{Around, Catcher, Handler, Handling};
 use plterm::term::Term;
 use std::alloc::AllocError;
@@ -53,22 +53,21 @@ pub struct Running {
 impl Machine {
     /// A term is run as a goal.
     #[inline(never)]
-    pub fn run(&mut self, program: &Program, ready: Ready, how: Running) -> Result<(), AllocError>
+    pub fn run(&mut self, ready: Ready, how: Running) -> Result<(), AllocError>
         requires ready { IsReady self.old.stack ready }
         requires how { IsRunning self.old.stack how }
-        ensures ok { OnOk result (Moved program.now self.old self.new (runs (ready_as self.old.stack ready) (predicate_of how.predicate) (around_cases self.old.stack how.around) how.level (goals_of self.old.stack how.list) self.old.stack.env.count (local_of self.old))) }
-        ensures err { OnErr result (Stays program.now self.old self.new) }
+        ensures ok { (P : Given) → OnOk result (Moved P self.old self.new (runs (ready_as self.old.stack ready) (predicate_of how.predicate) (around_cases self.old.stack how.around) how.level (goals_of self.old.stack how.list) self.old.stack.env.count (local_of self.old))) }
+        ensures err { (P : Given) → OnErr result (Stays P self.old self.new) }
     {
         match ready {
-            Ready::Raises(error) => self.raise_in(program, error, how),
-            Ready::Runs(goal) => { self.enter_goal(program, how.level, goal, how.list, how.around) }
+            Ready::Raises(error) => self.raise_in(error, how),
+            Ready::Runs(goal) => { self.enter_goal(how.level, goal, how.list, how.around) }
         }
     }
 
     /// Opens a choice with nothing left in other cases, and visits a goal of a cut level before a list in it.
     fn enter_goal(
         &mut self,
-        program: &Program,
         level: Level,
         goal: Cell,
         list: Continuation,
@@ -78,18 +77,18 @@ impl Machine {
         requires list { IsList self.old.stack list }
         requires around { IsAround self.old.stack around }
         requires level { Precedes (kinds (Choice [] ∷ around_cases self.old.stack around) ++ kinds_in self.old.stack) level (goals_of self.old.stack list) }
-        ensures ok { OnOk result (Moved program.now self.old self.new (Go (Choice [] ∷ around_cases self.old.stack around) (record { goals = Goal level (value self.old.stack.env.heap goal) ∷ goals_of self.old.stack list; variables = self.old.stack.env.count }) (local_of self.old))) }
-        ensures err { OnErr result (Stays program.now self.old self.new) }
+        ensures ok { (P : Given) → OnOk result (Moved P self.old self.new (Go (Choice [] ∷ around_cases self.old.stack around) (record { goals = Goal level (value self.old.stack.env.heap goal) ∷ goals_of self.old.stack list; variables = self.old.stack.env.count }) (local_of self.old))) }
+        ensures err { (P : Given) → OnErr result (Stays P self.old self.new) }
     {
-        let list = self.stack.link(Item::Goal(level, goal), list)?;
-        self.enter(program, list, around)
+        let list = self.stack.link(Portion::Goal(level, goal), list)?;
+        self.enter(list, around)
     }
 
     /// Opens a choice with nothing left in other cases, and raises an error of a predicate before a list in it.
-    fn raise_in(&mut self, program: &Program, error: Term, how: Running) -> Result<(), AllocError>
+    fn raise_in(&mut self, error: Term, how: Running) -> Result<(), AllocError>
         requires { IsRunning self.old.stack how }
-        ensures ok { OnOk result (Moved program.now self.old self.new (Go (Choice [] ∷ around_cases self.old.stack how.around) (record { goals = Raise (copied 0 (error_term error (predicate_of how.predicate))) ∷ goals_of self.old.stack how.list; variables = self.old.stack.env.count }) (local_of self.old))) }
-        ensures err { OnErr result (Stays program.now self.old self.new) }
+        ensures ok { (P : Given) → OnOk result (Moved P self.old self.new (Go (Choice [] ∷ around_cases self.old.stack how.around) (record { goals = Raise (copied 0 (error_term error (predicate_of how.predicate))) ∷ goals_of self.old.stack how.list; variables = self.old.stack.env.count }) (local_of self.old))) }
+        ensures err { (P : Given) → OnErr result (Stays P self.old self.new) }
     {
         let p = how.predicate.indicator(self.alloc)?;
         let ball = error::ball(self.alloc, error, &p)?;
@@ -101,20 +100,15 @@ impl Machine {
 
     /// once/1.
     #[inline(never)]
-    pub fn once(
-        &mut self,
-        program: &Program,
-        goal: Cell,
-        rest: Continuation,
-    ) -> Result<(), AllocError>
+    pub fn once(&mut self, goal: Cell, rest: Continuation) -> Result<(), AllocError>
         requires goal { IsValue self.old.stack.env.heap goal }
         requires rest { IsList self.old.stack rest }
         requires fits { IsFit self.old.stack rest }
-        ensures ok { OnOk result (Moved program.now self.old self.new (runs (runnable (value self.old.stack.env.heap goal)) once_1 [] (depth_of self.old) (Marker Commit (depth_of self.old) ∷ goals_of self.old.stack rest) self.old.stack.env.count (local_of self.old))) }
-        ensures err { OnErr result (Stays program.now self.old self.new) }
+        ensures ok { (P : Given) → OnOk result (Moved P self.old self.new (runs (runnable (value self.old.stack.env.heap goal)) once_1 [] (depth_of self.old) (Marker Commit (depth_of self.old) ∷ goals_of self.old.stack rest) self.old.stack.env.count (local_of self.old))) }
+        ensures err { (P : Given) → OnErr result (Stays P self.old self.new) }
     {
         let depth = self.stack.depth();
-        let marker = Item::Marker(MarkerKind::Commit, depth);
+        let marker = Portion::Marker(MarkerKind::Commit, depth);
         let (ready, list) = self.ready_before(goal, marker, &rest)?;
         let how = Running {
             predicate: Predicate::Once,
@@ -122,28 +116,23 @@ impl Machine {
             level: depth,
             list,
         };
-        self.run(program, ready, how)
+        self.run(ready, how)
     }
 
     /// `\+`/1.
     #[inline(never)]
-    pub fn not(
-        &mut self,
-        program: &Program,
-        goal: Cell,
-        rest: Continuation,
-    ) -> Result<(), AllocError>
+    pub fn not(&mut self, goal: Cell, rest: Continuation) -> Result<(), AllocError>
         requires goal { IsValue self.old.stack.env.heap goal }
         requires rest { IsList self.old.stack rest }
         requires fits { IsFit self.old.stack rest }
-        ensures ok { OnOk result (Moved program.now self.old self.new (runs (runnable (value self.old.stack.env.heap goal)) not_1 (branch (goals_of self.old.stack rest) self.old.stack.env.count ∷ []) (suc (depth_of self.old)) (Marker Never (depth_of self.old) ∷ goals_of self.old.stack rest) self.old.stack.env.count (local_of self.old))) }
-        ensures err { OnErr result (Stays program.now self.old self.new) }
+        ensures ok { (P : Given) → OnOk result (Moved P self.old self.new (runs (runnable (value self.old.stack.env.heap goal)) not_1 (branch (goals_of self.old.stack rest) self.old.stack.env.count ∷ []) (suc (depth_of self.old)) (Marker Never (depth_of self.old) ∷ goals_of self.old.stack rest) self.old.stack.env.count (local_of self.old))) }
+        ensures err { (P : Given) → OnErr result (Stays P self.old self.new) }
     {
         let depth = self.stack.depth();
         let Some(level) = depth.up(1) else {
             return Err(AllocError);
         };
-        let marker = Item::Marker(MarkerKind::Never, depth);
+        let marker = Portion::Marker(MarkerKind::Never, depth);
         let (ready, list) = self.ready_before(goal, marker, &rest)?;
         let how = Running {
             predicate: Predicate::Not,
@@ -151,14 +140,13 @@ impl Machine {
             level,
             list,
         };
-        self.run(program, ready, how)
+        self.run(ready, how)
     }
 
     /// catch/3 of a goal, with a catcher and a recovery.
     #[inline(never)]
     pub fn catching(
         &mut self,
-        program: &Program,
         goal: Cell,
         catcher: Catcher,
         rest: Continuation,
@@ -168,14 +156,14 @@ impl Machine {
         requires recovery { IsValue self.old.stack.env.heap catcher.recovery }
         requires rest { IsList self.old.stack rest }
         requires fits { IsFit self.old.stack rest }
-        ensures ok { OnOk result (Moved program.now self.old self.new (runs (runnable (value self.old.stack.env.heap goal)) catch_3 (catching (value self.old.stack.env.heap catcher.catcher) (value self.old.stack.env.heap catcher.recovery) (goals_of self.old.stack rest) self.old.stack.env.count ∷ []) (suc (depth_of self.old)) (Marker Until (depth_of self.old) ∷ goals_of self.old.stack rest) self.old.stack.env.count (local_of self.old))) }
-        ensures err { OnErr result (Stays program.now self.old self.new) }
+        ensures ok { (P : Given) → OnOk result (Moved P self.old self.new (runs (runnable (value self.old.stack.env.heap goal)) catch_3 (catching (value self.old.stack.env.heap catcher.catcher) (value self.old.stack.env.heap catcher.recovery) (goals_of self.old.stack rest) self.old.stack.env.count ∷ []) (suc (depth_of self.old)) (Marker Until (depth_of self.old) ∷ goals_of self.old.stack rest) self.old.stack.env.count (local_of self.old))) }
+        ensures err { (P : Given) → OnErr result (Stays P self.old self.new) }
     {
         let depth = self.stack.depth();
         let Some(level) = depth.up(1) else {
             return Err(AllocError);
         };
-        let marker = Item::Marker(MarkerKind::Until, depth);
+        let marker = Portion::Marker(MarkerKind::Until, depth);
         let (ready, list) = self.ready_before(goal, marker, &rest)?;
         let how = Running {
             predicate: Predicate::Catch,
@@ -186,19 +174,19 @@ impl Machine {
             level,
             list,
         };
-        self.run(program, ready, how)
+        self.run(ready, how)
     }
 
     /// call/N: the goal is the first argument, and its further arguments stand behind it.
     #[inline(never)]
-    pub fn call_with(&mut self, program: &Program, rest: Continuation) -> Result<(), AllocError>
+    pub fn call_with(&mut self, rest: Continuation) -> Result<(), AllocError>
         requires args { AreValues self.old.stack.env.heap self.old.args.items }
         requires some { 0 < length self.old.args.items }
         requires few { length self.old.args.items ≤ 1024 }
         requires rest { IsList self.old.stack rest }
         requires fits { IsFit self.old.stack rest }
-        ensures ok { (v : OfCell) (vs : List OfCell) → self.old.args.items ≡ v ∷ vs → OnOk result (Moved program.now self.old self.new (runs (called (value self.old.stack.env.heap v) (map (value self.old.stack.env.heap) vs)) (call_n (length vs)) [] (depth_of self.old) (goals_of self.old.stack rest) self.old.stack.env.count (local_of self.old))) }
-        ensures err { OnErr result (Stays program.now self.old self.new) }
+        ensures ok { (P : Given) → (v : OfCell) (vs : List OfCell) → self.old.args.items ≡ v ∷ vs → OnOk result (Moved P self.old self.new (runs (called (value self.old.stack.env.heap v) (map (value self.old.stack.env.heap) vs)) (call_n (length vs)) [] (depth_of self.old) (goals_of self.old.stack rest) self.old.stack.env.count (local_of self.old))) }
+        ensures err { (P : Given) → OnErr result (Stays P self.old self.new) }
     {
         let level = self.stack.depth();
         let further = self.args.len() as u16 - 1;
@@ -209,14 +197,14 @@ impl Machine {
             level,
             list: rest,
         };
-        self.run(program, ready, how)
+        self.run(ready, how)
     }
 
     /// What a term comes to as a goal, and a new list: a marker before a list that is there.
     pub(crate) fn ready_before(
         &mut self,
         goal: Cell,
-        marker: Item,
+        marker: Portion,
         rest: &Continuation,
     ) -> Result<(Ready, Continuation), AllocError>
         requires goal { IsValue self.old.stack.env.heap goal }

@@ -13,6 +13,7 @@ ghost use Rattle.plstack.specs.State.{goals_of, IsEmptyOrFit, IsFit, IsList};
 ghost use Rattle.plmachine.specs.Lists.{Grown};
 ghost use Rattle.plmachine.specs.Machine.{below_in, depth_of, local_of, lookup_of, IsSought, IsTied, Moved, MovedBy, Stays};
 ghost use Rattle.plmachine.specs.Seeking.{ErasesBefore, SeeksBy};
+ghost use Rattle.plprogram.specs.Program.{Program as Given};
 
 use crate::machine::{Find, Lookup, Machine, Mode, Outcome, Question, Sought, Then};
 use plcells::cell::Cell;
@@ -20,7 +21,6 @@ use plevent::ClauseName;
 use plevent::request::Request;
 use plevent::update::{Batch, Update};
 use pllinks::link::Continuation;
-use plprogram::program::Program;
 use plstack::frame::Use;
 use pltx::Erasure;
 use plviews::View;
@@ -28,21 +28,16 @@ use std::alloc::AllocError;
 
 impl Machine {
     /// Clauses are looked up before a list, in what is open, or else in a view that is asked for.
-    pub(crate) fn seek(
-        &mut self,
-        program: &Program,
-        lookup: Lookup,
-        rest: Continuation,
-    ) -> Result<(), AllocError>
+    pub(crate) fn seek(&mut self, lookup: Lookup, rest: Continuation) -> Result<(), AllocError>
         requires sought { IsSought self.old.stack.env.heap lookup }
         requires rest { IsList self.old.stack rest }
         requires fits { IsFit self.old.stack rest }
         requires tied { IsTied self.old }
-        ensures ok { OnOk result (MovedBy program.now self.old self.new (λ v. seek (below_in v self.old) (lookup_of self.old.stack.env.heap lookup) (depth_of self.old) (goals_of self.old.stack rest) self.old.stack.env.count (local_of self.old))) }
-        ensures err { OnErr result (Stays program.now self.old self.new) }
+        ensures ok { (P : Given) → OnOk result (MovedBy P self.old self.new (λ v. seek (below_in v self.old) (lookup_of self.old.stack.env.heap lookup) (depth_of self.old) (goals_of self.old.stack rest) self.old.stack.env.count (local_of self.old))) }
+        ensures err { (P : Given) → OnErr result (Stays P self.old self.new) }
     {
         if !self.layer.is_open() {
-            self.ask(program, Question::Look(lookup), rest);
+            self.ask(Question::Look(lookup), rest);
             return Ok(());
         }
         let view = self.layer.view();
@@ -75,17 +70,12 @@ impl Machine {
     }
 
     /// Updates are made of what is open, or else published as one batch, of which there is none without an update.
-    pub fn publish(
-        &mut self,
-        program: &Program,
-        updates: Vec<Update>,
-        rest: Continuation,
-    ) -> Result<(), AllocError>
+    pub fn publish(&mut self, updates: Vec<Update>, rest: Continuation) -> Result<(), AllocError>
         requires rest { IsList self.old.stack rest }
         requires fits { IsFit self.old.stack rest }
         requires tied { IsTied self.old }
-        ensures ok { OnOk result (Moved program.now self.old self.new (publish updates.items (goals_of self.old.stack rest) self.old.stack.env.count (local_of self.old))) }
-        ensures err { OnErr result (Stays program.now self.old self.new) }
+        ensures ok { (P : Given) → OnOk result (Moved P self.old self.new (publish updates.items (goals_of self.old.stack rest) self.old.stack.env.count (local_of self.old))) }
+        ensures err { (P : Given) → OnErr result (Stays P self.old self.new) }
     {
         if self.layer.is_open() {
             self.layer.make(updates)?;
@@ -97,22 +87,17 @@ impl Machine {
             return Ok(());
         }
         let request = Request::Publish(Batch::new(updates));
-        self.ask(program, Question::Await(request, Then::GoesOn), rest);
+        self.ask(Question::Await(request, Then::GoesOn), rest);
         Ok(())
     }
 
     /// The same of one update.
-    pub fn publish_one(
-        &mut self,
-        program: &Program,
-        update: Update,
-        rest: Continuation,
-    ) -> Result<(), AllocError>
+    pub fn publish_one(&mut self, update: Update, rest: Continuation) -> Result<(), AllocError>
         requires rest { IsList self.old.stack rest }
         requires fits { IsFit self.old.stack rest }
         requires tied { IsTied self.old }
-        ensures ok { OnOk result (Moved program.now self.old self.new (publish (update ∷ []) (goals_of self.old.stack rest) self.old.stack.env.count (local_of self.old))) }
-        ensures err { OnErr result (Stays program.now self.old self.new) }
+        ensures ok { (P : Given) → OnOk result (Moved P self.old self.new (publish (update ∷ []) (goals_of self.old.stack rest) self.old.stack.env.count (local_of self.old))) }
+        ensures err { (P : Given) → OnErr result (Stays P self.old self.new) }
     {
         if self.layer.is_open() {
             self.layer.make_one(update)?;
@@ -120,23 +105,18 @@ impl Machine {
             return Ok(());
         }
         let request = Request::Publish(Batch::of(update));
-        self.ask(program, Question::Await(request, Then::GoesOn), rest);
+        self.ask(Question::Await(request, Then::GoesOn), rest);
         Ok(())
     }
 
     /// The clause of a name is erased before a list: of what is open, unless it was erased there before, or else that is asked for.
-    pub fn erase(
-        &mut self,
-        program: &Program,
-        name: ClauseName,
-        rest: Continuation,
-    ) -> Result<(), AllocError>
+    pub fn erase(&mut self, name: ClauseName, rest: Continuation) -> Result<(), AllocError>
         requires rest { IsList self.old.stack rest }
         requires fits { IsEmptyOrFit self.old.stack rest }
         requires tied { IsTied self.old }
-        ensures ok { OnOk result (Moved program.now self.old self.new (went_on (Asking (Erase name) ∷ goals_of self.old.stack rest) self.old.stack.env.count (local_of self.old))) }
-        ensures becomes { OnOk result (ErasesBefore program.now (any_open self.old.layer.own) self.old self.new name (goals_of self.old.stack rest)) }
-        ensures err { OnErr result (Stays program.now self.old self.new) }
+        ensures ok { (P : Given) → OnOk result (Moved P self.old self.new (went_on (Asking (Erase name) ∷ goals_of self.old.stack rest) self.old.stack.env.count (local_of self.old))) }
+        ensures becomes { (P : Given) → OnOk result (ErasesBefore P (any_open self.old.layer.own) self.old self.new name (goals_of self.old.stack rest)) }
+        ensures err { (P : Given) → OnErr result (Stays P self.old self.new) }
     {
         if !self.layer.is_open() {
             self.stack.visit(rest);

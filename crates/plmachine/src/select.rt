@@ -14,12 +14,13 @@ ghost use Rattle.plstack.specs.State.{goals_of, kinds_in, IsFit, IsList};
 ghost use Rattle.plmachine.specs.Lists.{Grown};
 ghost use Rattle.plmachine.specs.Machine.{below_in, depth_of, local_of, IsBegun, IsTied, Moved, MovedBy, Stays};
 ghost use Rattle.plmachine.specs.Selected.{IsCallOf, IsSelected, IsStaticCall, StandsFor};
+ghost use Rattle.plprogram.specs.Program.{Program as Given};
 
 use crate::finding::Finding;
 use crate::machine::{Lookup, Machine, Mode, Outcome};
 use plcells::cell::Cell;
 use plgoals::form::{Form, Procedure};
-use pllinks::item::{Item, Run};
+use pllinks::item::{Portion, ClauseGoals};
 use pllinks::level::Level;
 use pllinks::link::Continuation;
 use plprogram::program::Program;
@@ -32,7 +33,7 @@ pub enum Source {
     /// It is the term of a value.
     Value(Cell),
     /// It stands at a node of a clause's code, with the slots of a run for its variables.
-    Node(Run, u32),
+    Node(ClauseGoals, u32),
 }
 
 impl Machine {
@@ -62,25 +63,21 @@ impl Machine {
                 self.give(Outcome::Fail);
                 Ok(())
             }
-            Form::Both(a, b) => {
-                self.both(program, Item::Goal(level, a), Item::Goal(level, b), rest)
-            }
-            Form::Either(a, b) => {
-                self.either(program, Item::Goal(level, a), Item::Goal(level, b), rest)
-            }
+            Form::Both(a, b) => { self.both(Portion::Goal(level, a), Portion::Goal(level, b), rest) }
+            Form::Either(a, b) => { self.either(Portion::Goal(level, a), Portion::Goal(level, b), rest) }
             Form::IfThen(condition, then) => {
-                let condition = Item::Goal(level, condition);
-                self.then(program, level, condition, Item::Goal(level, then), rest)
+                let condition = Portion::Goal(level, condition);
+                self.then(level, condition, Portion::Goal(level, then), rest)
             }
             Form::IfThenElse(condition, then, other) => {
-                let condition = Item::Goal(level, condition);
-                let then = Item::Goal(level, then);
-                self.then_else(program, condition, then, Item::Goal(level, other), rest)
+                let condition = Portion::Goal(level, condition);
+                let then = Portion::Goal(level, then);
+                self.then_else(condition, then, Portion::Goal(level, other), rest)
             }
-            Form::Not(goal) => self.not(program, goal, rest),
-            Form::Once(goal) => self.once(program, goal, rest),
+            Form::Not(goal) => self.not(goal, rest),
+            Form::Once(goal) => self.once(goal, rest),
             Form::Catching(goal, catcher, recovery) => {
-                self.catching(program, goal, Catcher { catcher, recovery }, rest)
+                self.catching(goal, Catcher { catcher, recovery }, rest)
             }
             Form::FindAll(template, goal, whole) => {
                 let finding = Finding {
@@ -88,24 +85,24 @@ impl Machine {
                     goal,
                     whole,
                 };
-                self.find_all(program, finding, rest)
+                self.find_all(finding, rest)
             }
-            Form::Within(kind, goal) => self.within(program, kind, goal, rest),
-            Form::Throwing(ball) => self.throw(program, ball, rest),
-            Form::CallWith => self.call_with(program, rest),
-            Form::Cut => self.cut(program, level, rest),
-            Form::BuiltIn(b) => self.built_in(program, b, source, rest),
+            Form::Within(kind, goal) => self.within(kind, goal, rest),
+            Form::Throwing(ball) => self.throw(ball, rest),
+            Form::CallWith => self.call_with(rest),
+            Form::Cut => self.cut(level, rest),
+            Form::BuiltIn(b) => self.built_in(b, source, rest),
             Form::Adding(side, clause) => self.add(program, side, clause, source, rest),
             Form::Retrieving(head, body) => self.retrieve(program, head, body, source, rest),
             Form::Retracting(clause) => self.retract(program, clause, source, rest),
             Form::RetractingAll(head) => self.retract_all(program, head, source, rest),
             Form::Declaring(names) => self.declare(program, names, source, rest),
             Form::Halt => {
-                self.halt(program, 0, rest);
+                self.halt(0, rest);
                 Ok(())
             }
-            Form::HaltWith(number) => self.halt_with(program, number, rest),
-            Form::Call(procedure) => self.call(program, procedure, source, rest),
+            Form::HaltWith(number) => self.halt_with(number, rest),
+            Form::Call(procedure) => self.call(procedure, source, rest),
             Form::NoGoal => {
                 self.give(Outcome::Fail);
                 Ok(())
@@ -130,12 +127,11 @@ impl Machine {
     /// A call of a procedure of all the arguments.
     fn call(
         &mut self,
-        program: &Program,
         procedure: Procedure,
         source: Source,
         rest: Continuation,
     ) -> Result<(), AllocError>
-        requires begun { IsBegun program.now self.old }
+        requires begun { (P : Given) × IsBegun P self.old }
         requires visits { self.old.mode ≡ Mode.Visit }
         requires args { AreValues self.old.stack.env.heap self.old.args.items }
         requires few { length self.old.args.items ≤ 1024 }
@@ -143,30 +139,25 @@ impl Machine {
         requires rest { IsList self.old.stack rest }
         requires fits { IsFit self.old.stack rest }
         requires tied { IsTied self.old }
-        ensures ok { (p : OfIndicator) (t : Tree) → StandsFor self.old.stack source t → IsCallOf program.now self.old p procedure t → OnOk result (MovedBy program.now self.old self.new (λ v. user (below_in v self.old) (clauses_for program.now p) (depth_of self.old) t (goals_of self.old.stack rest) self.old.stack.env.count (local_of self.old))) }
-        ensures err { OnErr result (Stays program.now self.old self.new) }
+        ensures ok { (P : Given) → IsBegun P self.old → (p : OfIndicator) (t : Tree) → StandsFor self.old.stack source t → IsCallOf P self.old p procedure t → OnOk result (MovedBy P self.old self.new (λ v. user (below_in v self.old) (clauses_for P p) (depth_of self.old) t (goals_of self.old.stack rest) self.old.stack.env.count (local_of self.old))) }
+        ensures err { (P : Given) → IsBegun P self.old → OnErr result (Stays P self.old self.new) }
     {
         match procedure {
-            Procedure::Static(place) => self.resolve(program, place, rest),
-            Procedure::Unknown => self.look(program, source, rest),
+            Procedure::Static(place) => self.resolve(place, rest),
+            Procedure::Unknown => self.look(source, rest),
         }
     }
 
     /// A call of a procedure of the program's text, by its place, of all the arguments.
-    pub(crate) fn resolve(
-        &mut self,
-        program: &Program,
-        place: u32,
-        rest: Continuation,
-    ) -> Result<(), AllocError>
-        requires begun { IsBegun program.now self.old }
+    pub(crate) fn resolve(&mut self, place: u32, rest: Continuation) -> Result<(), AllocError>
+        requires begun { (P : Given) × IsBegun P self.old }
         requires visits { self.old.mode ≡ Mode.Visit }
         requires args { AreValues self.old.stack.env.heap self.old.args.items }
         requires few { length self.old.args.items ≤ 1024 }
         requires rest { IsList self.old.stack rest }
         requires fits { IsFit self.old.stack rest }
-        ensures ok { (p : OfIndicator) (t : Tree) → IsStaticCall program.now self.old p place t → OnOk result (Moved program.now self.old self.new (called (depth_of self.old) self.old.stack.env.count t (goals_of self.old.stack rest) (clauses_for program.now p) (local_of self.old))) }
-        ensures err { OnErr result (Stays program.now self.old self.new) }
+        ensures ok { (P : Given) → IsBegun P self.old → (p : OfIndicator) (t : Tree) → IsStaticCall P self.old p place t → OnOk result (Moved P self.old self.new (called (depth_of self.old) self.old.stack.env.count t (goals_of self.old.stack rest) (clauses_for P p) (local_of self.old))) }
+        ensures err { (P : Given) → IsBegun P self.old → OnErr result (Stays P self.old self.new) }
     {
         if self.stack.call(place, &self.args, rest)? {
             return Ok(());
@@ -177,20 +168,15 @@ impl Machine {
 
     /// A call of a procedure that is not in the program's text: its clauses are looked up in a view.
     #[inline(never)]
-    fn look(
-        &mut self,
-        program: &Program,
-        source: Source,
-        rest: Continuation,
-    ) -> Result<(), AllocError>
+    fn look(&mut self, source: Source, rest: Continuation) -> Result<(), AllocError>
         requires source { (t : Tree) × StandsFor self.old.stack source t }
         requires rest { IsList self.old.stack rest }
         requires fits { IsFit self.old.stack rest }
         requires tied { IsTied self.old }
-        ensures ok { (t : Tree) → StandsFor self.old.stack source t → OnOk result (MovedBy program.now self.old self.new (λ v. seek (below_in v self.old) (ToCall t) (depth_of self.old) (goals_of self.old.stack rest) self.old.stack.env.count (local_of self.old))) }
-        ensures err { OnErr result (Stays program.now self.old self.new) }
+        ensures ok { (P : Given) → (t : Tree) → StandsFor self.old.stack source t → OnOk result (MovedBy P self.old self.new (λ v. seek (below_in v self.old) (ToCall t) (depth_of self.old) (goals_of self.old.stack rest) self.old.stack.env.count (local_of self.old))) }
+        ensures err { (P : Given) → OnErr result (Stays P self.old self.new) }
     {
         let goal = self.goal(source)?;
-        self.seek(program, Lookup::ToCall(goal), rest)
+        self.seek(Lookup::ToCall(goal), rest)
     }
 }

@@ -6,18 +6,18 @@ ghost use Rattle.std.specs.List.{list_all};
 ghost use Rattle.plterm.specs.Ground.{is_ground};
 ghost use Rattle.plcells.specs.Store.{value, AreValues};
 ghost use Rattle.plbuiltin.specs.Solution.{against};
-ghost use Rattle.plgenerator.specs.Answers.{left, IsTurn};
+ghost use Rattle.plgenerator.specs.Answers.{left, IsRemaining};
 ghost use Rattle.plsearch.specs.Moves.{choose};
 ghost use Rattle.plsearch.specs.Rows.{solved};
 ghost use Rattle.plstack.specs.State.{goals_of, IsFit, IsList};
 ghost use Rattle.plmachine.specs.Lists.{Grown};
 ghost use Rattle.plmachine.specs.Machine.{local_of, Moved, Stays};
+ghost use Rattle.plprogram.specs.Program.{Program as Given};
 
 use crate::machine::{Machine, Mode, Outcome};
 use plcells::cell::Cell;
-use plgenerator::turn::{Groups, Turn};
+use plgenerator::turn::{Groups, Remaining};
 use pllinks::link::Continuation;
-use plprogram::program::Program;
 use plstack::stack::Stack;
 use plterm::term::Term;
 use std::alloc::{AllocError, Global};
@@ -26,19 +26,18 @@ impl Machine {
     /// The answers of a turn over some values are tried before a list.
     pub(crate) fn several(
         &mut self,
-        program: &Program,
         values: &[Cell],
-        turn: Turn,
+        turn: Remaining,
         rest: Continuation,
     ) -> Result<(), AllocError>
         requires visits { self.old.mode ≡ Mode.Visit }
         requires values { AreValues self.old.stack.env.heap values.now }
         requires few { length values.now < 2 ^ 32 }
-        requires turn { IsTurn self.old.stack.env.heap values.now turn }
+        requires turn { IsRemaining self.old.stack.env.heap values.now turn }
         requires rest { IsList self.old.stack rest }
         requires fits { IsFit self.old.stack rest }
-        ensures ok { OnOk result (Moved program.now self.old self.new (choose (filter_map (solved (goals_of self.old.stack rest) self.old.stack.env.count) (left self.old.stack.env.heap values.now turn)) (local_of self.old))) }
-        ensures err { OnErr result (Stays program.now self.old self.new) }
+        ensures ok { (P : Given) → OnOk result (Moved P self.old self.new (choose (filter_map (solved (goals_of self.old.stack rest) self.old.stack.env.count) (left self.old.stack.env.heap values.now turn)) (local_of self.old))) }
+        ensures err { (P : Given) → OnErr result (Stays P self.old self.new) }
     {
         if self.stack.call_answers(self.alloc, values, turn, rest)? {
             return Ok(());
@@ -50,7 +49,6 @@ impl Machine {
     /// Some values are unified, together, with one term after another, before a list.
     pub(crate) fn one_of(
         &mut self,
-        program: &Program,
         values: Vec<Cell>,
         groups: &[Term],
         rest: Continuation,
@@ -63,16 +61,16 @@ impl Machine {
         requires many { length values.items + length groups.now < 2 ^ 32 }
         requires rest { IsList self.old.stack rest }
         requires fits { IsFit self.old.stack rest }
-        ensures ok { OnOk result (Moved program.now self.old self.new (choose (filter_map (solved (goals_of self.old.stack rest) self.old.stack.env.count) (map (against (map (value self.old.stack.env.heap) values.items)) groups.now)) (local_of self.old))) }
-        ensures err { OnErr result (Stays program.now self.old self.new) }
+        ensures ok { (P : Given) → OnOk result (Moved P self.old self.new (choose (filter_map (solved (goals_of self.old.stack rest) self.old.stack.env.count) (map (against (map (value self.old.stack.env.heap) values.items)) groups.now)) (local_of self.old))) }
+        ensures err { (P : Given) → OnErr result (Stays P self.old self.new) }
     {
         let arguments = values.len() as u16;
         let values = put_terms(&mut self.stack, self.alloc, values, groups)?;
-        let turn = Turn::Groups(Groups {
+        let turn = Remaining::Groups(Groups {
             arguments,
             passed: 0,
         });
-        self.several(program, &values, turn, rest)
+        self.several(&values, turn, rest)
     }
 }
 

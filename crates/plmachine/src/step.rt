@@ -13,7 +13,7 @@ use crate::list::branch;
 use crate::machine::{Machine, Mode};
 use crate::select::Source;
 use plcode::op::{Op, Step};
-use pllinks::item::Run;
+use pllinks::item::ClauseGoals;
 use pllinks::link::Continuation;
 use plprogram::program::Program;
 use std::alloc::AllocError;
@@ -24,7 +24,7 @@ impl Machine {
     pub fn step(
         &mut self,
         program: &Program,
-        run: Run,
+        run: ClauseGoals,
         step: Step,
         rest: Continuation,
     ) -> Result<(), AllocError>
@@ -40,18 +40,18 @@ impl Machine {
             Op::Or(left, right) => {
                 let left = branch(&run, left);
                 let right = branch(&run, right);
-                self.either(program, left, right, rest)
+                self.either(left, right, rest)
             }
             Op::IfThen(condition, then) => {
                 let condition = branch(&run, condition);
                 let then = branch(&run, then);
-                self.then(program, run.level, condition, then, rest)
+                self.then(run.level, condition, then, rest)
             }
             Op::IfThenElse(condition, then, other) => {
                 let condition = branch(&run, condition);
                 let then = branch(&run, then);
                 let other = branch(&run, other);
-                self.then_else(program, condition, then, other, rest)
+                self.then_else(condition, then, other, rest)
             }
             Op::Goal => {
                 let level = run.level;

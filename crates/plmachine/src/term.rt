@@ -5,7 +5,7 @@ ghost use Rattle.plcells.specs.Store.{value, AreValues, IsValue};
 ghost use Rattle.plsearch.specs.Forms.{form as form_by_term};
 ghost use Rattle.plsearch.specs.Rows.{row};
 ghost use Rattle.plgoals.specs.Callables.{called, IsCallable, IsNoGoal};
-ghost use Rattle.pllinks.specs.declared.item.Run.{Run as OfRun};
+ghost use Rattle.pllinks.specs.declared.item.ClauseGoals.{ClauseGoals as OfRun};
 ghost use Rattle.plstack.specs.Arguments.{IsArgument};
 ghost use Rattle.plstack.specs.Levels.{Precedes};
 ghost use Rattle.plstack.specs.State.{goals_of, kinds_in, IsList};
@@ -70,11 +70,11 @@ impl Machine {
         ensures heap { (r : OfRun) (node : ℕ) (t : Tree) (a : IsArithmetic t) → source ≡ Source.Node r node → IsArgument self.old.stack r node t → NeedsNoCell self.old.stack r a.predicate a.left a.right → self.new.stack.env.heap ≡ self.old.stack.env.heap }
     {
         if let Some(call) = self.calculation(&source) {
-            return self.calculate(program, call, rest);
+            return self.calculate(call, rest);
         }
         let number = self.number(&source)?;
         if let Some(place) = self.static_by(number) {
-            return self.resolve(program, place, rest);
+            return self.resolve(place, rest);
         }
         self.select_by(program, number, source, level, rest)
     }

@@ -11,31 +11,26 @@ ghost use Rattle.plstack.specs.Places.{viewed};
 ghost use Rattle.plstack.specs.State.{goals_of, walks_in, IsFit, IsList};
 ghost use Rattle.plmachine.specs.Clauses.{Walks};
 ghost use Rattle.plmachine.specs.Machine.{local_of, IsTied, Moved, Stays};
+ghost use Rattle.plprogram.specs.Program.{Program as Given};
 
 use crate::machine::{Machine, Mode, Outcome};
 use plcells::cell::Cell;
 use plevent::update::Update;
 use pllinks::link::Continuation;
-use plprogram::program::Program;
 use plstack::frame::{Spot, Use, Walk};
 use plterm::indicator::Indicator;
 use std::alloc::AllocError;
 
 impl Machine {
     /// A walk before a list, of which no clause was tried.
-    pub fn walk(
-        &mut self,
-        program: &Program,
-        walk: Walk,
-        rest: Continuation,
-    ) -> Result<(), AllocError>
+    pub fn walk(&mut self, walk: Walk, rest: Continuation) -> Result<(), AllocError>
         requires goal { IsValue self.old.stack.env.heap walk.goal }
         requires seen { IsSpotSeen self.old.stack.basis.latest walk.spot }
         requires rest { IsList self.old.stack rest }
         requires fits { IsFit self.old.stack rest }
-        ensures ok { OnOk result (Walks program.now self.old self.new (value self.old.stack.env.heap walk.goal) walk.uses walk.spot (goals_of self.old.stack rest)) }
+        ensures ok { (P : Given) → OnOk result (Walks P self.old self.new (value self.old.stack.env.heap walk.goal) walk.uses walk.spot (goals_of self.old.stack rest)) }
         ensures walks { OnOk result (walks_in self.new.stack ≡ viewed walk walk.spot ++ walks_in self.old.stack) }
-        ensures err { OnErr result (Stays program.now self.old self.new) }
+        ensures err { (P : Given) → OnErr result (Stays P self.old self.new) }
     {
         self.stack.open_walk(walk, rest)?;
         self.mode = Mode::Back(Outcome::Fail);
@@ -45,7 +40,6 @@ impl Machine {
     /// A walk over clauses that are told: a head and a body, as one term, are unified with them.
     pub fn tell(
         &mut self,
-        program: &Program,
         neck: Neck,
         uses: Use,
         spot: Spot,
@@ -56,22 +50,22 @@ impl Machine {
         requires seen { IsSpotSeen self.old.stack.basis.latest spot }
         requires rest { IsList self.old.stack rest }
         requires fits { IsFit self.old.stack rest }
-        ensures ok { OnOk result (Walks program.now self.old self.new (clause_term (value self.old.stack.env.heap neck.head) (value self.old.stack.env.heap neck.body)) uses spot (goals_of self.old.stack rest)) }
-        ensures err { OnErr result (Stays program.now self.old self.new) }
+        ensures ok { (P : Given) → OnOk result (Walks P self.old self.new (clause_term (value self.old.stack.env.heap neck.head) (value self.old.stack.env.heap neck.body)) uses spot (goals_of self.old.stack rest)) }
+        ensures err { (P : Given) → OnErr result (Stays P self.old self.new) }
     {
         let goal = self.stack.put_clause_term(neck.head, neck.body)?;
-        self.walk(program, Walk { goal, uses, spot }, rest)
+        self.walk(Walk { goal, uses, spot }, rest)
     }
 
     /// A procedure that does not exist is declared: retractall/1.
-    pub fn declare_one(&mut self, program: &Program, p: Indicator) -> Result<(), AllocError>
+    pub fn declare_one(&mut self, p: Indicator) -> Result<(), AllocError>
         requires fits { IsFit self.old.stack self.old.stack.goals }
         requires tied { IsTied self.old }
-        ensures ok { OnOk result (Moved program.now self.old self.new (publish (Declare p ∷ []) (goals_of self.old.stack self.old.stack.goals) self.old.stack.env.count (local_of self.old))) }
-        ensures err { OnErr result (Stays program.now self.old self.new) }
+        ensures ok { (P : Given) → OnOk result (Moved P self.old self.new (publish (Declare p ∷ []) (goals_of self.old.stack self.old.stack.goals) self.old.stack.env.count (local_of self.old))) }
+        ensures err { (P : Given) → OnErr result (Stays P self.old self.new) }
     {
         let rest = self.stack.visited();
-        self.publish_one(program, Update::Declare(p), rest)
+        self.publish_one(Update::Declare(p), rest)
     }
 }
 

@@ -12,16 +12,16 @@ ghost use Rattle.plmachine.specs.Lists.{Grown};
 ghost use Rattle.plmachine.specs.Machine.{depth_of, local_of, IsClosed, IsTied, Moved, Stays};
 ghost use Rattle.plmachine.specs.Predicates.{predicate_of, IsFew};
 ghost use Rattle.plmachine.specs.Within.{entered, BeginsAt, IsEntry, IsEntryFit};
+ghost use Rattle.plprogram.specs.Program.{Program as Given};
 
 use crate::error;
 use crate::machine::{Machine, Mode, Outcome, Question};
 use crate::predicate::Predicate;
 use crate::running::Ready;
 use plcells::cell::Cell;
-use pllinks::item::{Item, MarkerKind};
+use pllinks::item::{Portion, MarkerKind};
 use pllinks::level::Level;
 use pllinks::link::Continuation;
-use plprogram::program::Program;
 use plterm::term::Term;
 use pltx::Isolation;
 use plviews::View;
@@ -41,7 +41,6 @@ impl Machine {
     #[inline(never)]
     pub fn within(
         &mut self,
-        program: &Program,
         kind: Isolation,
         goal: Cell,
         rest: Continuation,
@@ -50,11 +49,11 @@ impl Machine {
         requires rest { IsList self.old.stack rest }
         requires fits { IsFit self.old.stack rest }
         requires tied { IsTied self.old }
-        ensures ok { OnOk result (Moved program.now self.old self.new (beginning kind (value self.old.stack.env.heap goal) (depth_of self.old) (goals_of self.old.stack rest) self.old.stack.env.count (local_of self.old))) }
-        ensures err { OnErr result (Stays program.now self.old self.new) }
+        ensures ok { (P : Given) → OnOk result (Moved P self.old self.new (beginning kind (value self.old.stack.env.heap goal) (depth_of self.old) (goals_of self.old.stack rest) self.old.stack.env.count (local_of self.old))) }
+        ensures err { (P : Given) → OnErr result (Stays P self.old self.new) }
     {
         if !self.layer.is_open() {
-            self.ask(program, Question::Begin(kind, goal), rest);
+            self.ask(Question::Begin(kind, goal), rest);
             return Ok(());
         }
         let entry = self.entry(kind, goal, &rest)?;
@@ -73,20 +72,14 @@ impl Machine {
     }
 
     /// An outermost transaction or snapshot begins at a place, with the view of which it was answered, before the visited list.
-    pub fn begin_at(
-        &mut self,
-        program: &Program,
-        kind: Isolation,
-        place: u64,
-        goal: Cell,
-    ) -> Result<(), AllocError>
+    pub fn begin_at(&mut self, kind: Isolation, place: u64, goal: Cell) -> Result<(), AllocError>
         requires goal { IsValue self.old.stack.env.heap goal }
         requires fits { IsFit self.old.stack self.old.stack.goals }
         requires tied { IsTied self.old }
         requires closed { IsClosed self.old.layer.own }
         requires latest { self.old.stack.basis.latest.place ≤ place }
-        ensures ok { OnOk result (BeginsAt program.now self.old self.new place (opened kind place (value self.old.stack.env.heap goal) (depth_of self.old) (goals_of self.old.stack self.old.stack.goals) self.old.stack.env.count (local_of self.old))) }
-        ensures err { OnErr result (Stays program.now self.old self.new) }
+        ensures ok { (P : Given) → OnOk result (BeginsAt P self.old self.new place (opened kind place (value self.old.stack.env.heap goal) (depth_of self.old) (goals_of self.old.stack self.old.stack.goals) self.old.stack.env.count (local_of self.old))) }
+        ensures err { (P : Given) → OnErr result (Stays P self.old self.new) }
     {
         let rest = self.stack.visited();
         let entry = self.entry(kind, goal, &rest)?;
@@ -124,11 +117,11 @@ impl Machine {
         let Some(inner) = depth.up(2) else {
             return Err(AllocError);
         };
-        let marker = Item::Marker(MarkerKind::Transact(depth), level);
+        let marker = Portion::Marker(MarkerKind::Transact(depth), level);
         let (ready, list) = self.ready_before(goal, marker, rest)?;
         match ready {
             Ready::Runs(goal) => {
-                let list = self.stack.link(Item::Goal(inner, goal), list)?;
+                let list = self.stack.link(Portion::Goal(inner, goal), list)?;
                 Ok(Entry::Visits(list))
             }
             Ready::Raises(error) => {

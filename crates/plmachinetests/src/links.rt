@@ -1,14 +1,14 @@
 //! Goal lists (pllinks).
 use plcells::cell::Cell;
-use pllinks::item::{Item, MarkerKind, Run};
+use pllinks::item::{Portion, MarkerKind, ClauseGoals};
 use pllinks::level::Level;
 use pllinks::link::{Continuation, number_of, push_link, slots_of};
 use pllinks::list::ListId;
 use std::test::Fail;
 
 /// Goals of a clause at a level, whose slots end at a place.
-fn run(level: u64, end: u32) -> Item {
-    Item::Run(Run {
+fn run(level: u64, end: u32) -> Portion {
+    Portion::Clause(ClauseGoals {
         position: 9,
         owed: 1,
         base: 0,
@@ -18,13 +18,13 @@ fn run(level: u64, end: u32) -> Item {
 }
 
 /// A goal that is a term, at a level.
-fn goal(level: u64) -> Item {
-    Item::Goal(Level::new(level), Cell::Int(7))
+fn goal(level: u64) -> Portion {
+    Portion::Goal(Level::new(level), Cell::Int(7))
 }
 
 /// A marker of a level.
-fn marker(level: u64) -> Item {
-    Item::Marker(MarkerKind::Commit, Level::new(level))
+fn marker(level: u64) -> Portion {
+    Portion::Marker(MarkerKind::Commit, Level::new(level))
 }
 
 /// The list that was made after so many others; the first is the empty one.
@@ -36,8 +36,8 @@ fn made(after: usize) -> ListId {
 }
 
 /// One conjunction of a goal, selected.
-fn selected() -> Run {
-    Run {
+fn selected() -> ClauseGoals {
+    ClauseGoals {
         position: 0,
         owed: 1,
         base: 0,
@@ -77,7 +77,7 @@ fn lists(rt: HostRuntime) -> Result<(), Fail> {
 #[test]
 fn numbers(rt: HostRuntime) -> Result<(), Fail> {
     let mut links = Vec::new(rt.alloc());
-    assert!(rt; Run::done().is_done());
+    assert!(rt; ClauseGoals::done().is_done());
     assert_eq!(rt;
         number_of(&mut links, Continuation::alone(ListId::EMPTY))?,
         ListId::EMPTY

@@ -1,5 +1,6 @@
 //! Searches turn by turn (plsolver).
 ghost use Rattle.std.specs.Prelude.{◌≡◌, ◌≤◌, ℕ, true, IfOk, OnOk};
+ghost use Rattle.plprogram.specs.Program.{Program as Given};
 ghost use Rattle.plsolver.specs.Fetching.{Fetches};
 ghost use Rattle.plsolver.specs.Solver.{IsOf, IsReplyTo, WaitsForReply, latest_view};
 
@@ -46,11 +47,11 @@ fn is_served(request: &Request, reply: &Reply) -> bool
 }
 
 /// Gives what was asked its reply.
-fn serve(alloc: Global, program: &Program, going: &mut Going, request: &Request) -> Result<(), Fail>
-    requires of { IsOf program.now going.old.solver.machine }
+fn serve(alloc: Global, going: &mut Going, request: &Request) -> Result<(), Fail>
+    requires of { (P : Given) × IsOf P going.old.solver.machine }
     requires waits { WaitsForReply going.old.solver request.now }
     requires within { going.old.solver.used ≤ going.old.solver.limit }
-    ensures of { OnOk result (IsOf program.now going.new.solver.machine) }
+    ensures of { (P : Given) → IsOf P going.old.solver.machine → OnOk result (IsOf P going.new.solver.machine) }
     ensures solver { OnOk result (going.new.solver.limit ≡ going.old.solver.limit) }
     ensures limit { going.new.limit ≡ going.old.limit }
     ensures view { OnOk result (latest_view going.new.solver ≡ latest_view going.old.solver) }
@@ -66,16 +67,16 @@ fn serve(alloc: Global, program: &Program, going: &mut Going, request: &Request)
     if !is_served(request, &reply) {
         return Err("another reply".into());
     }
-    going.solver.reply(program, place, reply)?;
+    going.solver.reply(place, reply)?;
     Ok(())
 }
 
 /// Finds what was asked in a view.
-fn fetch(program: &Program, going: &mut Going, query: &Query) -> Result<(), Fail>
-    requires of { IsOf program.now going.old.solver.machine }
+fn fetch(going: &mut Going, query: &Query) -> Result<(), Fail>
+    requires of { (P : Given) × IsOf P going.old.solver.machine }
     requires fetches { (g : ℕ) × Fetches going.old.solver g query.now }
     requires within { going.old.solver.used ≤ going.old.solver.limit }
-    ensures of { OnOk result (IsOf program.now going.new.solver.machine) }
+    ensures of { (P : Given) → IsOf P going.old.solver.machine → OnOk result (IsOf P going.new.solver.machine) }
     ensures solver { OnOk result (going.new.solver.limit ≡ going.old.solver.limit) }
     ensures limit { going.new.limit ≡ going.old.limit }
     ensures view { OnOk result (latest_view going.new.solver ≡ latest_view going.old.solver) }
@@ -83,7 +84,7 @@ fn fetch(program: &Program, going: &mut Going, query: &Query) -> Result<(), Fail
 {
     let view = going.solver.view();
     let found = going.world.look(view, query)?;
-    going.solver.fetched(program, found)?;
+    going.solver.fetched(found)?;
     Ok(())
 }
 
@@ -117,16 +118,16 @@ fn turn(
             if g.is_before(going.latest) {
                 return Err("an earlier view".into());
             }
-            going.solver.refreshed(program, g)?;
+            going.solver.refreshed(g)?;
             going.latest = g;
             Ok(None)
         }
         Turn::Fetch(query) => {
-            fetch(program, going, &query)?;
+            fetch(going, &query)?;
             Ok(None)
         }
         Turn::Ask(request) => {
-            serve(alloc, program, going, &request)?;
+            serve(alloc, going, &request)?;
             Ok(None)
         }
         Turn::Ended(end) => Ok(Some(end)),

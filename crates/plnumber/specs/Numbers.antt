@@ -3,8 +3,8 @@ use Rattle.std.specs.Prelude.{ℕ, ℤ, pos, ◌+◌, List, length, drop, ◌==�
 use Rattle.std.specs.Option.{option_and_then}
 use Rattle.pllex.specs.declared.token.Kind.{Kind}
 use Rattle.pllex.specs.declared.token.Kind.TheVariants as kinds
-use Rattle.pllex.specs.declared.token.Item.{Item}
-use Rattle.pllex.specs.declared.token.Item.TheVariants as items
+use Rattle.pllex.specs.declared.token.Scanned.{Scanned}
+use Rattle.pllex.specs.declared.token.Scanned.TheVariants as items
 use Rattle.pllex.specs.declared.layout.Mode.TheVariants.{Between}
 use Rattle.pllex.specs.declared.layout.Gap.{Gap}
 use Rattle.pllex.specs.declared.layout.Gap.TheVariants as gaps
@@ -17,7 +17,7 @@ integer_value (kinds.Integer n) = Some n
 integer_value kind = None
 
 -- the value of an integer token with which the text ends
-abbrev pub last_integer : List ℕ → Item → Option ℕ
+abbrev pub last_integer : List ℕ → Scanned → Option ℕ
 last_integer text (items.Token t) = if t.end == length text then integer_value t.kind else None
 last_integer text (items.Fault fault at) = None
 last_integer text items.Nothing = None

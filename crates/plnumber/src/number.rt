@@ -6,7 +6,7 @@ ghost use Rattle.plnumber.specs.Numbers.{integer_value, last_integer, unsigned, 
 use pllex::characters::begins_with;
 use pllex::item::item_at;
 use pllex::layout::{Gap, gap_at};
-use pllex::token::{Item, Kind};
+use pllex::token::{Scanned, Kind};
 use plread::looks::negative;
 
 /// The value of an integer token.
@@ -25,14 +25,14 @@ fn last_integer(text: &[u8], place: usize) -> Option<u64>
     ensures { result ≡ last_integer text.now (item_at text.now place (drop place text.now)) }
 {
     match item_at(text, place) {
-        Item::Token(token) => {
+        Scanned::Token(token) => {
             if token.end == text.len() {
                 integer_value(token.kind)
             } else {
                 None
             }
         }
-        Item::Fault(_, _) | Item::Nothing => None,
+        Scanned::Fault(_, _) | Scanned::Nothing => None,
     }
 }
 

@@ -16,9 +16,9 @@ use Rattle.plorder.specs.declared.shape.Shape.{Shape}
 use Rattle.plorder.specs.declared.shape.Shape.TheVariants.{Variable, Integer, Atom, Compound}
 use Rattle.plorder.specs.declared.compare.Pair.{Pair}
 use Rattle.plorder.specs.declared.compare.Pair.TheVariants.{Variables, Integers, Atoms, Compounds, Apart}
-use Rattle.plorder.specs.declared.compare.Run.{Run}
+use Rattle.plorder.specs.declared.compare.SpanPair.{SpanPair}
 use Rattle.plorder.specs.Shapes.{IsOfShape, pair_of}
-use Rattle.plorder.specs.Runs.{HasRun}
+use Rattle.plorder.specs.Runs.{HasSpanPair}
 
 -- two blocks at their places, of a heap whose names are a table
 pub record AreCompounds (h : Store) (s t : Tree) (a b : Block) : Type 0 where
@@ -111,8 +111,8 @@ module _ (h : Store) (a b : Block) (left : IsBlock h a.place a.functor a.arity) 
       ∙ ap (λ (q : Ordering). ordering_then q (arguments_order (trees (terms h (suc a.place) a.arity)) (trees (terms h (suc b.place) b.arity)))) e
       ∙ sym blocks_order
 
-  pub blocks-run : (r : Run) → IsTable h.names → r.left ≡ suc a.place → r.right ≡ suc b.place → r.count ≡ a.arity
-      → Equal ≡ functor_order (functor_name h.names a.functor) a.arity (functor_name h.names b.functor) b.arity → HasRun h (term h a.place) (term h b.place) r
+  pub blocks-run : (r : SpanPair) → IsTable h.names → r.left ≡ suc a.place → r.right ≡ suc b.place → r.count ≡ a.arity
+      → Equal ≡ functor_order (functor_name h.names a.functor) a.arity (functor_name h.names b.functor) b.arity → HasSpanPair h (term h a.place) (term h b.place) r
   unfolding weight
   blocks-run r names el er ec same =
       let arity : a.arity ≡ b.arity = exact_unsigned a.arity b.arity (first (nat_cmp a.arity b.arity) (name_order (functor_name h.names a.functor) (functor_name h.names b.functor)) same) in

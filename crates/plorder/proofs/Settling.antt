@@ -10,17 +10,17 @@ use Rattle.plterm.specs.Order.{order, arguments_order}
 use Rattle.plcells.specs.Store.{Store, term, terms}
 use Rattle.plcells.specs.Walking.{weight, weights}
 use Rattle.plcells.proofs.Searching.{weight-some}
-use Rattle.plorder.specs.declared.compare.Run.{Run}
+use Rattle.plorder.specs.declared.compare.SpanPair.{SpanPair}
 use Rattle.plorder.specs.declared.compare.Verdict.{Verdict}
-use Rattle.plorder.specs.Runs.{IsRun, AreRuns, HasRun, Says, run_order, runs_order, rest_of}
+use Rattle.plorder.specs.Runs.{IsSpanPair, AreSpanPairs, HasSpanPair, IsComparison, run_order, runs_order, rest_of}
 
 -- how many nodes the terms on the left have
-abbrev pub weigh_runs : Store → List Run → ℕ
+abbrev pub weigh_runs : Store → List SpanPair → ℕ
 weigh_runs h [] = 0
 weigh_runs h (r ∷ rs) = weights (trees (terms h r.left r.count)) + weigh_runs h rs
 
-pub says-along : (h : Store) (s t u v : Tree) (verdict : Verdict) → s ≡ u → t ≡ v → Says h s t verdict → Says h u v verdict
-says-along h s t u v verdict e f is = subst (λ x. Says h x v verdict) e (subst (λ y. Says h s y verdict) f is)
+pub says-along : (h : Store) (s t u v : Tree) (verdict : Verdict) → s ≡ u → t ≡ v → IsComparison h s t verdict → IsComparison h u v verdict
+says-along h s t u v verdict e f is = subst (λ x. IsComparison h x v verdict) e (subst (λ y. IsComparison h s y verdict) f is)
 
 pub differs : (o : Ordering) → is_ne o ≡ true → o ≡ Equal → ⊥
 differs o is e = let f : false ≡ true = ap is_ne (sym e) ∙ is in cc
@@ -45,35 +45,35 @@ then_equal Less = refl
 then_equal Equal = refl
 then_equal Greater = refl
 
-pub runs-append : (h : Store) (rs : List Run) (r : Run) → runs_order h (rs ++ r ∷ []) ≡ ordering_then (run_order h r) (runs_order h rs)
-runs-append h rs r = fold-append (λ (o : Ordering) (q : Run). ordering_then (run_order h q) o) Equal rs (r ∷ [])
+pub runs-append : (h : Store) (rs : List SpanPair) (r : SpanPair) → runs_order h (rs ++ r ∷ []) ≡ ordering_then (run_order h r) (runs_order h rs)
+runs-append h rs r = fold-append (λ (o : Ordering) (q : SpanPair). ordering_then (run_order h q) o) Equal rs (r ∷ [])
 
-weigh-append : (h : Store) (rs : List Run) (r : Run) → weigh_runs h (rs ++ r ∷ []) ≡ weigh_runs h rs + weights (trees (terms h r.left r.count))
+weigh-append : (h : Store) (rs : List SpanPair) (r : SpanPair) → weigh_runs h (rs ++ r ∷ []) ≡ weigh_runs h rs + weights (trees (terms h r.left r.count))
 weigh-append h [] r = omega arith
 weigh-append h (q ∷ rs) r = omega (arith, weigh-append h rs r)
 
-are-append : (h : Store) (rs : List Run) (r : Run) → AreRuns h rs → IsRun h r → AreRuns h (rs ++ r ∷ [])
+are-append : (h : Store) (rs : List SpanPair) (r : SpanPair) → AreSpanPairs h rs → IsSpanPair h r → AreSpanPairs h (rs ++ r ∷ [])
 are-append h [] r are is = (is, tt)
 are-append h (q ∷ rs) r are is = (are.0, are-append h rs r are.1 is)
 
-are-pop : (h : Store) (rs : List Run) (r : Run) → AreRuns h (rs ++ r ∷ []) → AreRuns h rs × IsRun h r
+are-pop : (h : Store) (rs : List SpanPair) (r : SpanPair) → AreSpanPairs h (rs ++ r ∷ []) → AreSpanPairs h rs × IsSpanPair h r
 are-pop h [] r are = (tt, are.0)
 are-pop h (q ∷ rs) r are = let p = are-pop h rs r are.1 in ((are.0, p.0), p.1)
 
 -- what is left of a list when the first pair of its last run has been taken
-pub record IsLeft (h : Store) (old new : List Run) (a b : ℕ) : Type 0 where
-  pub runs : AreRuns h new
+pub record IsLeft (h : Store) (old new : List SpanPair) (a b : ℕ) : Type 0 where
+  pub runs : AreSpanPairs h new
   pub is : runs_order h old ≡ ordering_then (order (term h a) (term h b)) (runs_order h new)
   pub weighs : weigh_runs h old ≡ weight (term h a) + weigh_runs h new
 
-module _ (h : Store) (old rest : List Run) (r : Run) (e : old ≡ rest ++ r ∷ []) (are : AreRuns h old) where
-  pub taken : IsRun h r
-  taken = (are-pop h rest r (subst (AreRuns h) e are)).1
+module _ (h : Store) (old rest : List SpanPair) (r : SpanPair) (e : old ≡ rest ++ r ∷ []) (are : AreSpanPairs h old) where
+  pub taken : IsSpanPair h r
+  taken = (are-pop h rest r (subst (AreSpanPairs h) e are)).1
 
-  pub others : AreRuns h rest
-  others = (are-pop h rest r (subst (AreRuns h) e are)).0
+  pub others : AreSpanPairs h rest
+  others = (are-pop h rest r (subst (AreSpanPairs h) e are)).0
 
-  shrunk : Run
+  shrunk : SpanPair
   shrunk = record { left = r.left + 1; right = r.right + 1; count = r.count - 1 }
 
   -- the run, in its first pair and what is behind it
@@ -89,16 +89,16 @@ module _ (h : Store) (old rest : List Run) (r : Run) (e : old ≡ rest ++ r ∷ 
       ap (λ (n : ℕ). weights (trees (terms h r.left n))) ek
       ∙ ap (λ (m : ℕ). weight (term h r.left) + weights (trees (terms h m k))) (omega arith)
 
-  left_by : (b : Bool) → nat_lt 1 r.count ≡ b → (new : List Run) → new ≡ rest ++ rest_of r → IsLeft h old new r.left r.right
+  left_by : (b : Bool) → nat_lt 1 r.count ≡ b → (new : List SpanPair) → new ≡ rest ++ rest_of r → IsLeft h old new r.left r.right
   unfolding order weight shrunk
   left_by true is new en =
       let more : 1 < r.count = grind (arith, is) in
       let k = r.count - 1 in
       let ek : r.count ≡ suc k = omega (arith, more) in
       let now : new ≡ rest ++ shrunk ∷ [] = en ∙ rw is refl in
-      let run : IsRun h r = taken in
+      let run : IsSpanPair h r = taken in
       record {
-        runs = subst (AreRuns h) (sym now) (are-append h rest shrunk others (record {
+        runs = subst (AreSpanPairs h) (sym now) (are-append h rest shrunk others (record {
           some = omega (arith, more);
           left = omega (arith, more, run.left);
           right = omega (arith, more, run.right);
@@ -114,25 +114,25 @@ module _ (h : Store) (old rest : List Run) (r : Run) (e : old ≡ rest ++ r ∷ 
         weighs = omega (arith, ap (weigh_runs h) e, weigh-append h rest r, parted_weight k ek, ap (weigh_runs h) now, weigh-append h rest shrunk);
       }
   left_by false is new en =
-      let run : IsRun h r = taken in
+      let run : IsSpanPair h r = taken in
       let few : r.count ≤ 1 = grind (arith, is) in
       let ek : r.count ≡ suc 0 = omega (arith, few, run.some) in
       let now : new ≡ rest ++ [] = en ∙ rw is refl in
       let same : new ≡ rest = now ∙ append-nil rest in
       record {
-        runs = subst (AreRuns h) (sym same) others;
+        runs = subst (AreSpanPairs h) (sym same) others;
         is =
             ap (runs_order h) e ∙ runs-append h rest r
             ∙ ap (λ (o : Ordering). ordering_then o (runs_order h rest)) (parted 0 ek)
             ∙ then_assoc (order (term h r.left) (term h r.right)) Equal (runs_order h rest)
-            ∙ ap (λ (rs : List Run). ordering_then (order (term h r.left) (term h r.right)) (runs_order h rs)) (sym same);
+            ∙ ap (λ (rs : List SpanPair). ordering_then (order (term h r.left) (term h r.right)) (runs_order h rs)) (sym same);
         weighs = omega (arith, ap (weigh_runs h) e, weigh-append h rest r, parted_weight 0 ek, ap (weigh_runs h) same);
       }
 
-  pub left-taken : (new : List Run) → new ≡ rest ++ rest_of r → IsLeft h old new r.left r.right
+  pub left-taken : (new : List SpanPair) → new ≡ rest ++ rest_of r → IsLeft h old new r.left r.right
   left-taken new en = left_by (nat_lt 1 r.count) refl new en
 
-module _ (h : Store) (start old new : List Run) (a b : ℕ) (left : IsLeft h old new a b) (same : runs_order h old ≡ runs_order h start) where
+module _ (h : Store) (start old new : List SpanPair) (a b : ℕ) (left : IsLeft h old new a b) (same : runs_order h old ≡ runs_order h start) where
   -- the two are equal
   pub on-equal : Equal ≡ order (term h a) (term h b) → runs_order h new ≡ runs_order h start
   on-equal e = ap (λ (o : Ordering). ordering_then o (runs_order h new)) e ∙ sym left.is ∙ same
@@ -145,9 +145,9 @@ module _ (h : Store) (start old new : List Run) (a b : ℕ) (left : IsLeft h old
   on-decided o e ne = sym (then_decided o (runs_order h new) ne) ∙ ap (λ (p : Ordering). ordering_then p (runs_order h new)) e ∙ sym left.is ∙ same
 
   -- they come to their arguments
-  module _ (r : Run) (has : HasRun h (term h a) (term h b) r) (after : List Run) (e : after ≡ new ++ r ∷ []) where
-    pub runs-more : AreRuns h after
-    runs-more = subst (AreRuns h) (sym e) (are-append h new r left.runs has.run)
+  module _ (r : SpanPair) (has : HasSpanPair h (term h a) (term h b) r) (after : List SpanPair) (e : after ≡ new ++ r ∷ []) where
+    pub runs-more : AreSpanPairs h after
+    runs-more = subst (AreSpanPairs h) (sym e) (are-append h new r left.runs has.run)
 
     pub on-more : runs_order h after ≡ runs_order h start
     on-more = ap (runs_order h) e ∙ runs-append h new r ∙ ap (λ (o : Ordering). ordering_then o (runs_order h new)) (sym has.is) ∙ sym left.is ∙ same
@@ -156,12 +156,12 @@ module _ (h : Store) (start old new : List Run) (a b : ℕ) (left : IsLeft h old
     lighter-more = omega (arith, left.weighs, has.lighter, ap (weigh_runs h) e, weigh-append h new r)
 
 -- a list of one run
-module _ (h : Store) (s t : Tree) (r : Run) (has : HasRun h s t r) (none work : List Run) (e : none ≡ []) (f : work ≡ none ++ r ∷ []) where
+module _ (h : Store) (s t : Tree) (r : SpanPair) (has : HasSpanPair h s t r) (none work : List SpanPair) (e : none ≡ []) (f : work ≡ none ++ r ∷ []) where
   alone : work ≡ r ∷ []
-  alone = f ∙ ap (λ (rs : List Run). rs ++ r ∷ []) e
+  alone = f ∙ ap (λ (rs : List SpanPair). rs ++ r ∷ []) e
 
-  pub one-run : AreRuns h work
-  one-run = subst (AreRuns h) (sym alone) (has.run, tt)
+  pub one-run : AreSpanPairs h work
+  one-run = subst (AreSpanPairs h) (sym alone) (has.run, tt)
 
   pub one-order : runs_order h work ≡ order s t
   one-order = ap (runs_order h) alone ∙ then_equal (run_order h r) ∙ sym has.is

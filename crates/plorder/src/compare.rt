@@ -5,7 +5,7 @@ ghost use Rattle.plterm.specs.Order.{name_order, functor_order, order};
 ghost use Rattle.platoms.specs.Names.{atom_at, functor_name, functor_arity, IsTable};
 ghost use Rattle.plcells.specs.Store.{term, value, IsValue, IsBlock};
 ghost use Rattle.plorder.specs.Shapes.{IsOfShape, pair_of};
-ghost use Rattle.plorder.specs.Runs.{rest_of, runs_order, AreRuns, HoldsNothing, Says};
+ghost use Rattle.plorder.specs.Runs.{rest_of, runs_order, AreSpanPairs, HoldsNothing, IsComparison};
 
 use crate::shape::{Block, Shape, shape_of};
 use platoms::names::Names;
@@ -17,7 +17,7 @@ use std::cmp::Ordering;
 
 /// Arguments to be compared from the left: the first cell on either side, and how many there are.
 #[derive(Clone, Copy)]
-pub struct Run {
+pub struct SpanPair {
     pub left: CellId,
     pub right: CellId,
     pub count: u16,
@@ -38,7 +38,7 @@ pub enum Pair {
 pub enum Verdict {
     Decided(Ordering),
     /// The order of these arguments.
-    Arguments(Run),
+    Arguments(SpanPair),
 }
 
 /// Two terms by their class.
@@ -103,13 +103,13 @@ fn judge_blocks(heap: &Heap, a: Block, b: Block) -> Verdict
     requires names { IsTable heap.now.names }
     requires left { IsBlock heap.now a.place a.functor a.arity }
     requires right { IsBlock heap.now b.place b.functor b.arity }
-    ensures { Says heap.now (term heap.now a.place) (term heap.now b.place) result }
+    ensures { IsComparison heap.now (term heap.now a.place) (term heap.now b.place) result }
 {
     if a.place == b.place {
         return Verdict::Decided(Ordering::Equal);
     }
     match compare_functors(heap.names(), a.functor, b.functor) {
-        Ordering::Equal => Verdict::Arguments(Run {
+        Ordering::Equal => Verdict::Arguments(SpanPair {
             left: a.place.arg(1),
             right: b.place.arg(1),
             count: a.arity,
@@ -122,7 +122,7 @@ fn judge_blocks(heap: &Heap, a: Block, b: Block) -> Verdict
 fn judge(heap: &Heap, a: Cell, b: Cell) -> Verdict
     requires left { IsValue heap.now a }
     requires right { IsValue heap.now b }
-    ensures { Says heap.now (value heap.now a) (value heap.now b) result }
+    ensures { IsComparison heap.now (value heap.now a) (value heap.now b) result }
 {
     match pair_of(shape_of(heap, &a), shape_of(heap, &b)) {
         Pair::Variables(m, n) => Verdict::Decided(m.cmp(&n)),
@@ -134,13 +134,13 @@ fn judge(heap: &Heap, a: Cell, b: Cell) -> Verdict
 }
 
 /// Puts a run on the list without its first pair, if there is another.
-fn push_rest(work: &mut Vec<Run>, run: &Run) -> Result<(), AllocError>
+fn push_rest(work: &mut Vec<SpanPair>, run: &SpanPair) -> Result<(), AllocError>
     requires left { run.now.left + run.now.count < 2 ^ 32 }
     requires right { run.now.right + run.now.count < 2 ^ 32 }
     ensures { OnOk result (work.new.items ≡ work.old.items ++ rest_of run.now) }
 {
     if run.count > 1 {
-        work.push(Run {
+        work.push(SpanPair {
             left: run.left.after(1),
             right: run.right.after(1),
             count: run.count - 1,
@@ -150,8 +150,8 @@ fn push_rest(work: &mut Vec<Run>, run: &Run) -> Result<(), AllocError>
 }
 
 /// Takes runs apart, up to the first arguments that differ.
-fn settle(heap: &Heap, work: &mut Vec<Run>) -> Result<Ordering, AllocError>
-    requires { AreRuns heap.now work.old.items }
+fn settle(heap: &Heap, work: &mut Vec<SpanPair>) -> Result<Ordering, AllocError>
+    requires { AreSpanPairs heap.now work.old.items }
     ensures { IfOk result (λ o. o ≡ runs_order heap.now work.old.items) }
 {
     'runs: while let Some(next) = work.pop() {
@@ -169,7 +169,7 @@ fn settle(heap: &Heap, work: &mut Vec<Run>) -> Result<Ordering, AllocError>
 /// Room for the work of a comparison, which keeps its memory between calls.
 #[derive(Drop)]
 pub struct Room {
-    work: Vec<Run>,
+    work: Vec<SpanPair>,
 }
 
 impl Room {

@@ -13,7 +13,7 @@ use std::alloc::{AllocError, Global};
 
 /// A node, and the bytes behind its own.
 #[derive(Drop)]
-pub(crate) struct Item<'a> {
+pub(crate) struct NodeAt<'a> {
     pub node: Node,
     pub behind: &'a [u8],
 }
@@ -32,7 +32,7 @@ pub fn next_item(alloc: Global, bytes: &[u8], seen: u64) -> Result<Option<Next<'
     requires { seen < 2 ^ 63 }
     ensures { IfOk result (FindsNext bytes.now seen) }
 {
-    let Some(Item { node, behind }) = item_at(alloc, bytes)? else {
+    let Some(NodeAt { node, behind }) = item_at(alloc, bytes)? else {
         return Ok(None);
     };
     let Some(seen) = seen_with(seen, &node) else {
@@ -54,7 +54,7 @@ fn seen_with(seen: u64, node: &Node) -> Option<u64>
 }
 
 /// The node whose bytes begin the bytes.
-fn item_at(alloc: Global, bytes: &[u8]) -> Result<Option<Item<'_>>, AllocError>
+fn item_at(alloc: Global, bytes: &[u8]) -> Result<Option<NodeAt<'_>>, AllocError>
     ensures { IfOk result (Finds bytes.now) }
 {
     match bytes {
@@ -68,36 +68,36 @@ fn item_at(alloc: Global, bytes: &[u8]) -> Result<Option<Item<'_>>, AllocError>
 }
 
 /// The variable whose number begins the bytes.
-fn variable_at(bytes: &[u8]) -> Option<Item<'_>>
+fn variable_at(bytes: &[u8]) -> Option<NodeAt<'_>>
     ensures { Finds (VARIABLE ∷ bytes.now) result }
 {
     let (number, behind) = long_of(bytes)?;
     let node = Node::Var(number);
-    Some(Item { node, behind })
+    Some(NodeAt { node, behind })
 }
 
 /// The integer whose value begins the bytes.
-fn integer_at(bytes: &[u8]) -> Option<Item<'_>>
+fn integer_at(bytes: &[u8]) -> Option<NodeAt<'_>>
     ensures { Finds (INTEGER ∷ bytes.now) result }
 {
     let (value, behind) = long_of(bytes)?;
     let node = Node::Int(value.cast_signed());
-    Some(Item { node, behind })
+    Some(NodeAt { node, behind })
 }
 
 /// The atom whose name begins the bytes.
-fn atom_at(alloc: Global, bytes: &[u8]) -> Result<Option<Item<'_>>, AllocError>
+fn atom_at(alloc: Global, bytes: &[u8]) -> Result<Option<NodeAt<'_>>, AllocError>
     ensures { IfOk result (Finds (ATOM ∷ bytes.now)) }
 {
     let Some((text, behind)) = name_of(bytes) else {
         return Ok(None);
     };
     let node = Node::Atom(Name::new(alloc, text)?);
-    Ok(Some(Item { node, behind }))
+    Ok(Some(NodeAt { node, behind }))
 }
 
 /// The compound whose arity and name begin the bytes.
-fn compound_at(alloc: Global, bytes: &[u8]) -> Result<Option<Item<'_>>, AllocError>
+fn compound_at(alloc: Global, bytes: &[u8]) -> Result<Option<NodeAt<'_>>, AllocError>
     ensures { IfOk result (Finds (COMPOUND ∷ bytes.now)) }
 {
     let Some((arity, rest)) = short_of(bytes) else {
@@ -110,7 +110,7 @@ fn compound_at(alloc: Global, bytes: &[u8]) -> Result<Option<Item<'_>>, AllocErr
         return Ok(None);
     };
     let node = Node::Compound(Name::new(alloc, text)?, arity);
-    Ok(Some(Item { node, behind }))
+    Ok(Some(NodeAt { node, behind }))
 }
 
 /// Whether a compound may have so many arguments.

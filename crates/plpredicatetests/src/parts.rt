@@ -13,7 +13,7 @@ use plgenerator::equation::{part_equation, split_equation, together};
 use plgenerator::generator::next;
 use plgenerator::part::all_parts;
 use plgenerator::split::all_splits;
-use plgenerator::turn::{Groups, Part, Split, Turn};
+use plgenerator::turn::{Groups, Part, Split, Remaining};
 use plgenerator::wanted::Sought;
 use plterm::term::Term;
 use std::alloc::Global;
@@ -129,7 +129,7 @@ fn group_on(heap: &mut Heap, alloc: Global, goal: &Goal, passed: u32) -> Result<
     if passed as usize + 2 > args.len() {
         return Err("too many groups".into());
     }
-    let turn = Turn::Groups(Groups {
+    let turn = Remaining::Groups(Groups {
         arguments: 2,
         passed,
     });

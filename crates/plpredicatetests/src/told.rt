@@ -4,7 +4,7 @@ ghost use Rattle.plterm.specs.Variables.{AllBelow};
 ghost use Rattle.plcells.specs.declared.cell.Cell.{Cell as OfCell};
 ghost use Rattle.plcells.specs.Equations.{IsEquation};
 ghost use Rattle.plcells.specs.Store.{AreValues, IsValue};
-ghost use Rattle.plgenerator.specs.Answers.{IsTurn};
+ghost use Rattle.plgenerator.specs.Answers.{IsRemaining};
 ghost use Rattle.planswers.specs.Answers.{IsThere};
 
 use crate::made::{Goal, shown, text_of, word};
@@ -15,7 +15,7 @@ use plcells::cell::Cell;
 use plcells::equation::Equation;
 use plcells::heap::Heap;
 use plgenerator::generator::next;
-use plgenerator::turn::Turn;
+use plgenerator::turn::Remaining;
 use plops::table::OpTable;
 use plprogram::settings::Settings;
 use plterm::term::Term;
@@ -178,12 +178,12 @@ fn tell_next(
     alloc: Global,
     heap: &Heap,
     values: &[Cell],
-    turn: Option<Turn>,
+    turn: Option<Remaining>,
     told: &mut String,
-) -> Result<Option<Turn>, Fail>
+) -> Result<Option<Remaining>, Fail>
     requires values { AreValues heap.now values.now }
-    requires turn { IfSome turn (IsTurn heap.now values.now) }
-    ensures { IfOk result (λ rest. IfSome rest (IsTurn heap.now values.now)) }
+    requires turn { IfSome turn (IsRemaining heap.now values.now) }
+    ensures { IfOk result (λ rest. IfSome rest (IsRemaining heap.now values.now)) }
 {
     let Some(turn) = turn else {
         return Ok(None);
@@ -197,9 +197,9 @@ fn tell_next(
 }
 
 /// The right sides of the answers of a turn, at most a hundred.
-fn answers_of(alloc: Global, heap: &Heap, values: &[Cell], turn: Turn) -> Result<String, Fail>
+fn answers_of(alloc: Global, heap: &Heap, values: &[Cell], turn: Remaining) -> Result<String, Fail>
     requires values { AreValues heap.now values.now }
-    requires turn { IsTurn heap.now values.now turn }
+    requires turn { IsRemaining heap.now values.now turn }
 {
     let mut told = String::new(alloc);
     let mut rest = Some(turn);

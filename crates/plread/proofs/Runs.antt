@@ -3,8 +3,8 @@ use Rattle.std.proofs.Common.{◌≡◌, ◌<◌, ◌+◌, ◌*◌, arith, ℕ, 
 use Rattle.plterm.specs.Tree.{Tree}
 use Rattle.plops.specs.declared.table.OpTable.{OpTable}
 use Rattle.plread.specs.declared.frame.Frame.{Frame}
-use Rattle.plread.specs.declared.reader.Turn.{Turn}
-use Rattle.plread.specs.declared.reader.Turn.TheVariants as turns
+use Rattle.plread.specs.declared.reader.ReadStep.{ReadStep}
+use Rattle.plread.specs.declared.reader.ReadStep.TheVariants as turns
 use Rattle.plread.specs.Signs.{Sign}
 use Rattle.plread.specs.Signs as tok
 use Rattle.plread.specs.Words.{Lexicon}
@@ -82,11 +82,11 @@ at_start ops levels signs words frames trees f t =
     subst (λ x. Reading ops levels signs (record { room = levels; stack = stack_view words x; trees = trees; given = None; left = signs })) (sym f)
     (subst (λ x. Reading ops levels signs (record { room = levels; stack = []; trees = x; given = None; left = signs })) (sym t) (at_first ops levels signs))
 
-pub is_goes : (t : Turn) (s : State) (after : After) → Turned t s after → t ≡ turns.Goes → after ≡ Goes s
+pub is_goes : (t : ReadStep) (s : State) (after : After) → Turned t s after → t ≡ turns.Goes → after ≡ Goes s
 is_goes t s after h e = subst (λ x. Turned x s after) e h
 
-pub is_done : (t : Turn) (s : State) (after : After) → Turned t s after → t ≡ turns.Done → after ≡ Done s.trees
+pub is_done : (t : ReadStep) (s : State) (after : After) → Turned t s after → t ≡ turns.Done → after ≡ Done s.trees
 is_done t s after h e = subst (λ x. Turned x s after) e h
 
-pub is_failure : (t : Turn) (s : State) (after : After) → Turned t s after → t ≡ turns.Fails → after ≡ Fails
+pub is_failure : (t : ReadStep) (s : State) (after : After) → Turned t s after → t ≡ turns.Fails → after ≡ Fails
 is_failure t s after h e = subst (λ x. Turned x s after) e h

@@ -5,7 +5,7 @@ ghost use Rattle.plread.specs.Reading.{Spells};
 ghost use Rattle.plread.specs.Looks.{view};
 ghost use Rattle.plread.specs.Answers.{Answers};
 
-use crate::reader::{Reader, Turn};
+use crate::reader::{Reader, ReadStep};
 use crate::token::Token;
 use crate::words::Words;
 use plops::table::OpTable;
@@ -33,13 +33,13 @@ pub fn term_of(
     };
     'steps: loop {
         match reader.step(words, ops) {
-            Ok(Turn::Goes) => {}
-            Ok(Turn::Done) => {
+            Ok(ReadStep::Goes) => {}
+            Ok(ReadStep::Done) => {
                 let Reader { terms, .. } = reader;
                 let term = terms.finish(alloc)?;
                 return Ok(Some(term));
             }
-            Ok(Turn::Fails) => return Ok(None),
+            Ok(ReadStep::Fails) => return Ok(None),
             Err(error) => return Err(error),
         }
     }

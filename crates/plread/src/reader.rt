@@ -13,7 +13,7 @@ use std::alloc::{AllocError, Global};
 
 /// Whether the reading goes on, is done, or fails since the tokens spell no term.
 #[derive(Clone, Copy, Debug, PartialEq, Eq)]
-pub enum Turn {
+pub enum ReadStep {
     Goes,
     Done,
     Fails,
@@ -55,18 +55,18 @@ impl<'a> Reader<'a> {
         }
     }
 
-    fn open(&mut self, words: &Words, frame: Frame, rest: &'a [Token]) -> Result<Turn, AllocError>
+    fn open(&mut self, words: &Words, frame: Frame, rest: &'a [Token]) -> Result<ReadStep, AllocError>
         ensures { Gives words.now result self.old self.new
             (λ room stack trees _. opened room (level_view words.now frame ∷ stack) trees (view words.now rest.now)) }
     {
         if self.room == 0 {
-            return Ok(Turn::Fails);
+            return Ok(ReadStep::Fails);
         }
         self.room -= 1;
         self.stack.push(frame)?;
         self.given = None;
         self.left = rest;
-        Ok(Turn::Goes)
+        Ok(ReadStep::Goes)
     }
 
     fn complete(
@@ -75,7 +75,7 @@ impl<'a> Reader<'a> {
         node: Node,
         given: u16,
         rest: &'a [Token],
-    ) -> Result<Turn, AllocError>
+    ) -> Result<ReadStep, AllocError>
         requires limits { IsWithinLimits node }
         requires operands { arity node ≤ length self.old.terms }
         ensures { Gives words.now result self.old self.new
@@ -86,17 +86,17 @@ impl<'a> Reader<'a> {
     }
 
     /// An operand is complete, before the rest.
-    fn give(&mut self, words: &Words, priority: u16, rest: &'a [Token]) -> Turn
+    fn give(&mut self, words: &Words, priority: u16, rest: &'a [Token]) -> ReadStep
         ensures { Turned result (state_view words.now self.new)
             (complete self.old.room (stack_view words.now self.old.stack.items) self.old.terms priority (view words.now rest.now)) }
     {
         self.given = Some(priority);
         self.left = rest;
-        Turn::Goes
+        ReadStep::Goes
     }
 
     /// An operand is wanted inside a level that takes the place of one that was open.
-    fn go_in(&mut self, words: &Words, frame: Frame, rest: &'a [Token]) -> Result<Turn, AllocError>
+    fn go_in(&mut self, words: &Words, frame: Frame, rest: &'a [Token]) -> Result<ReadStep, AllocError>
         requires { self.old.room + 1 + vec_len self.old.stack < 2 ^ 64 }
         ensures { Gives words.now result self.old self.new
             (λ room stack trees _. goes_in room (level_view words.now frame ∷ stack) trees (view words.now rest.now)) }
@@ -104,7 +104,7 @@ impl<'a> Reader<'a> {
         self.stack.push(frame)?;
         self.given = None;
         self.left = rest;
-        Ok(Turn::Goes)
+        Ok(ReadStep::Goes)
     }
 }
 
@@ -117,7 +117,7 @@ impl<'a> Reader<'a> {
     ghost use Rattle.plread.specs.Reading.{start_of, next_of};
     ghost use Rattle.plread.specs.Views.{stack_view, Stepped, state_view, Gives};
 
-    fn stand(&mut self, words: &Words, leaf: Leaf, rest: &'a [Token]) -> Result<Turn, AllocError>
+    fn stand(&mut self, words: &Words, leaf: Leaf, rest: &'a [Token]) -> Result<ReadStep, AllocError>
         ensures { Gives words.now result self.old self.new
             (λ room stack trees _. complete room stack (leaf_tree words.now leaf ∷ trees) 0 (view words.now rest.now)) }
     {
@@ -147,7 +147,7 @@ impl<'a> Reader<'a> {
         arity: u16,
         given: u16,
         rest: &'a [Token],
-    ) -> Result<Turn, AllocError>
+    ) -> Result<ReadStep, AllocError>
         requires some { 0 < arity }
         requires few { arity ≤ 1024 }
         requires operands { arity ≤ length self.old.terms }
@@ -159,7 +159,7 @@ impl<'a> Reader<'a> {
         self.complete(words, Node::Compound(name, arity), given, rest)
     }
 
-    fn want(&mut self, words: &Words, ops: &OpTable) -> Result<Turn, AllocError>
+    fn want(&mut self, words: &Words, ops: &OpTable) -> Result<ReadStep, AllocError>
         ensures { Gives words.now result self.old self.new
             (λ room stack trees left. wants room stack trees (start_of ops.now (max_of stack) left)) }
     {
@@ -170,11 +170,11 @@ impl<'a> Reader<'a> {
             Opening::OpensCurly(rest) => self.open(words, Frame::Curly, rest),
             Opening::Calls(name, rest) => self.open(words, Frame::Call(name, 0), rest),
             Opening::Before(name, op, rest) => self.open(words, Frame::Before(name, op), rest),
-            Opening::Nothing => Ok(Turn::Fails),
+            Opening::Nothing => Ok(ReadStep::Fails),
         }
     }
 
-    fn close(&mut self, words: &Words) -> Result<Turn, AllocError>
+    fn close(&mut self, words: &Words) -> Result<ReadStep, AllocError>
         requires { self.old.room + 1 + vec_len self.old.stack < 2 ^ 64 }
         ensures { Gives words.now result self.old self.new closes }
     {
@@ -183,11 +183,11 @@ impl<'a> Reader<'a> {
                 self.room += 1;
                 Ok(self.give(words, 0, rest))
             }
-            _ => Ok(Turn::Fails),
+            _ => Ok(ReadStep::Fails),
         }
     }
 
-    fn close_curly(&mut self, words: &Words) -> Result<Turn, AllocError>
+    fn close_curly(&mut self, words: &Words) -> Result<ReadStep, AllocError>
         requires room { self.old.room + 1 + vec_len self.old.stack < 2 ^ 64 }
         requires operands { 1 ≤ length self.old.terms }
         ensures { Gives words.now result self.old self.new curls }
@@ -197,12 +197,12 @@ impl<'a> Reader<'a> {
                 self.room += 1;
                 self.build(words, words.curly(), 1, 0, rest)
             }
-            _ => Ok(Turn::Fails),
+            _ => Ok(ReadStep::Fails),
         }
     }
 
     /// An element of a list is complete, behind so many others. A list of 2^64 elements fits in no memory.
-    fn list(&mut self, words: &Words, complete: u64) -> Result<Turn, AllocError>
+    fn list(&mut self, words: &Words, complete: u64) -> Result<ReadStep, AllocError>
         requires room { self.old.room + 1 + vec_len self.old.stack < 2 ^ 64 }
         requires operands { complete + 1 ≤ length self.old.terms }
         ensures { Gives words.now result self.old self.new (lists complete) }
@@ -216,12 +216,12 @@ impl<'a> Reader<'a> {
             }
             [Token::Comma, rest @ ..] => self.go_in(words, Frame::Elements(complete), rest),
             [Token::Bar, rest @ ..] => self.go_in(words, Frame::Tail(complete), rest),
-            _ => Ok(Turn::Fails),
+            _ => Ok(ReadStep::Fails),
         }
     }
 
     /// The tail of a list is complete, behind so many elements.
-    fn close_tail(&mut self, words: &Words, elements: u64) -> Result<Turn, AllocError>
+    fn close_tail(&mut self, words: &Words, elements: u64) -> Result<ReadStep, AllocError>
         requires room { self.old.room + 1 + vec_len self.old.stack < 2 ^ 64 }
         requires operands { elements + 1 ≤ length self.old.terms }
         ensures { Gives words.now result self.old self.new (tails elements) }
@@ -232,12 +232,12 @@ impl<'a> Reader<'a> {
                 join(self.alloc, words, &mut self.terms, elements)?;
                 Ok(self.give(words, 0, rest))
             }
-            _ => Ok(Turn::Fails),
+            _ => Ok(ReadStep::Fails),
         }
     }
 
     /// An argument is complete, behind so many others.
-    fn argue(&mut self, words: &Words, name: usize, complete: u16) -> Result<Turn, AllocError>
+    fn argue(&mut self, words: &Words, name: usize, complete: u16) -> Result<ReadStep, AllocError>
         requires room { self.old.room + 1 + vec_len self.old.stack < 2 ^ 64 }
         requires operands { complete + 1 ≤ length self.old.terms }
         ensures { Gives words.now result self.old self.new (argues (name_at words.now name) complete) }
@@ -248,29 +248,29 @@ impl<'a> Reader<'a> {
                     self.room += 1;
                     self.build(words, name, complete + 1, 0, rest)
                 } else {
-                    Ok(Turn::Fails)
+                    Ok(ReadStep::Fails)
                 }
             }
             [Token::Comma, rest @ ..] => {
                 if complete < 1023 {
                     self.go_in(words, Frame::Call(name, complete + 1), rest)
                 } else {
-                    Ok(Turn::Fails)
+                    Ok(ReadStep::Fails)
                 }
             }
-            _ => Ok(Turn::Fails),
+            _ => Ok(ReadStep::Fails),
         }
     }
 
     /// No operator extends the latest operand: the innermost level takes it.
-    fn stop(&mut self, words: &Words) -> Result<Turn, AllocError>
+    fn stop(&mut self, words: &Words) -> Result<ReadStep, AllocError>
         requires { length self.old.terms ≡ held (stack_view words.now self.old.stack.items) + 1 }
         ensures { Gives words.now result self.old self.new stops }
     {
         match self.stack.pop() {
             None => match self.left {
-                [Token::End] => Ok(Turn::Done),
-                _ => Ok(Turn::Fails),
+                [Token::End] => Ok(ReadStep::Done),
+                _ => Ok(ReadStep::Fails),
             },
             Some(Frame::Bracket) => self.close(words),
             Some(Frame::Curly) => self.close_curly(words),
@@ -288,7 +288,7 @@ impl<'a> Reader<'a> {
         }
     }
 
-    fn extend(&mut self, words: &Words, ops: &OpTable, given: u16) -> Result<Turn, AllocError>
+    fn extend(&mut self, words: &Words, ops: &OpTable, given: u16) -> Result<ReadStep, AllocError>
         requires { length self.old.terms ≡ held (stack_view words.now self.old.stack.items) + 1 }
         ensures { Gives words.now result self.old self.new
             (λ room stack trees left. goes_on room stack trees left (next_of ops.now (max_of stack) given left)) }
@@ -301,7 +301,7 @@ impl<'a> Reader<'a> {
     }
 
     /// One step. Want of memory leaves it at the step's beginning or within it, and it is not to go on then.
-    pub fn step(&mut self, words: &Words, ops: &OpTable) -> Result<Turn, AllocError>
+    pub fn step(&mut self, words: &Words, ops: &OpTable) -> Result<ReadStep, AllocError>
         requires { length self.old.terms ≡ held (stack_view words.now self.old.stack.items) + one_if self.old.given }
         ensures { Stepped result (state_view words.now self.new) (step ops.now (state_view words.now self.old)) }
     {

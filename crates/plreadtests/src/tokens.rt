@@ -8,7 +8,7 @@ use pllex::item::item_at;
 use pllex::layout::{Gap, gap_at};
 use pllex::quoted::{Quote, Quoted, is_control, mark, quoted_end};
 use pllex::runs::{is_layout, run_end};
-use pllex::token::{Base, Class, Fault, Item, Kind, Token};
+use pllex::token::{Base, Class, Fault, Scanned, Kind, Token};
 use pllex::value::{has_value, value_of};
 use plterm::characters::is_symbol;
 use std::alloc::{AllocError, Global};
@@ -324,6 +324,6 @@ fn starts(rt: HostRuntime) {
     assert!(rt; matches!(quoted_end(b"'a''b'.", 0, Quote::Single), Quoted::Closed(6)));
     let item = item_at(b"Ab(", 0);
     assert!(rt;
-        matches!(item, Item::Token(token) if token.kind == Kind::Variable && token.end == 2)
+        matches!(item, Scanned::Token(token) if token.kind == Kind::Variable && token.end == 2)
     );
 }

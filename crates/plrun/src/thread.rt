@@ -2,6 +2,7 @@
 ghost use Rattle.std.specs.Prelude.{◌≡◌, ℕ, IfOk, OnOk, IfSome, [], ◌∷◌};
 ghost use Rattle.plevent.specs.Search.{View, Ask};
 ghost use Rattle.plsearch.specs.Solving.{StandsAt, EndsAt};
+ghost use Rattle.plprogram.specs.Program.{Program as Given};
 ghost use Rattle.plsearch.specs.Search.{search_of};
 ghost use Rattle.plstore.specs.Looking.{Views};
 ghost use Rattle.plsolver.specs.Fetching.{Fetches};
@@ -30,54 +31,46 @@ pub struct Running {
 }
 
 /// Takes the view that the thread asks, for clauses that are looked up or for what begins on it: the database as it is now.
-fn look(program: &Program, world: &World, running: &mut Running) -> Result<(), AllocError>
-    requires runs { GoesOn program.now world.now.journal running.old }
+fn look(world: &World, running: &mut Running) -> Result<(), AllocError>
+    requires runs { (P : Given) × GoesOn P world.now.journal running.old }
     requires waits { WaitsForView running.old.solver }
-    requires at { (v : Views) → StandsAt View (rest_of program.now v running.old.solver) running.old.solver.used running.old.solver.machine.out.items }
-    ensures runs { OnOk result (GoesOn program.now world.now.journal running.new) }
+    ensures runs { (P : Given) → GoesOn P world.now.journal running.old → ((v : Views) → StandsAt View (rest_of P v running.old.solver) running.old.solver.used running.old.solver.machine.out.items) → OnOk result (GoesOn P world.now.journal running.new) }
     ensures limit { running.new.solver.limit ≡ running.old.solver.limit }
 {
-    running.solver.refreshed(program, world.front())?;
+    running.solver.refreshed(world.front())?;
     Ok(())
 }
 
 /// Finds what the thread asks in a view that it has.
-fn fetch(
-    program: &Program,
-    world: &World,
-    running: &mut Running,
-    query: &Query,
-) -> Result<(), AllocError>
-    requires runs { IsThread program.now world.now.journal running.old }
+fn fetch(world: &World, running: &mut Running, query: &Query) -> Result<(), AllocError>
+    requires runs { (P : Given) × IsThread P world.now.journal running.old }
     requires fetches { (g : ℕ) × Fetches running.old.solver g query.now }
-    ensures runs { OnOk result (IsThread program.now world.now.journal running.new) }
+    ensures runs { (P : Given) → IsThread P world.now.journal running.old → OnOk result (IsThread P world.now.journal running.new) }
     ensures limit { running.new.solver.limit ≡ running.old.solver.limit }
 {
     let view = running.solver.view();
     let found = world.look(view, query)?;
-    running.solver.fetched(program, found)?;
+    running.solver.fetched(found)?;
     Ok(())
 }
 
 /// Serves a request of the thread: a batch is published, a clause is erased, or the run is ended.
 fn serve(
     alloc: Global,
-    program: &Program,
     world: &mut World,
     running: &mut Running,
     request: Request,
 ) -> Result<(), AllocError>
-    requires runs { GoesOn program.now world.old.journal running.old }
+    requires runs { (P : Given) × GoesOn P world.old.journal running.old }
     requires serves { IsServing world.old }
     requires waits { WaitsForReply running.old.solver request }
-    requires at { (v : Views) → StandsAt (Ask request) (rest_of program.now v running.old.solver) running.old.solver.used running.old.solver.machine.out.items }
-    ensures runs { OnOk result (IsThread program.now world.new.journal running.new) }
+    ensures runs { (P : Given) → GoesOn P world.old.journal running.old → ((v : Views) → StandsAt (Ask request) (rest_of P v running.old.solver) running.old.solver.used running.old.solver.machine.out.items) → OnOk result (IsThread P world.new.journal running.new) }
     ensures limit { running.new.solver.limit ≡ running.old.solver.limit }
     ensures serves { IsServing world.new }
 {
     let place = world.front();
     let reply = world.step(alloc, WorkerId::FIRST, running.thread, request)?;
-    running.solver.reply(program, place, reply)?;
+    running.solver.reply(place, reply)?;
     Ok(())
 }
 
@@ -100,15 +93,15 @@ fn turn(
     match running.solver.advance(program, SLICE)? {
         Turn::Slice => Ok(None),
         Turn::Refresh => {
-            look(program, world, running)?;
+            look(world, running)?;
             Ok(None)
         }
         Turn::Fetch(query) => {
-            fetch(program, world, running, &query)?;
+            fetch(world, running, &query)?;
             Ok(None)
         }
         Turn::Ask(request) => {
-            serve(alloc, program, world, running, request)?;
+            serve(alloc, world, running, request)?;
             Ok(None)
         }
         Turn::Ended(end) => Ok(Some(end)),

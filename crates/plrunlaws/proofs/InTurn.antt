@@ -11,7 +11,7 @@ use Rattle.plevent.specs.Reading.{reading}
 use Rattle.plevent.specs.Rows.{served}
 use Rattle.plevent.specs.Search.{Item, View, Ask}
 use Rattle.plhist.specs.Follows.{own, Taken, is_not_yet, noted, answered, from_start}
-use Rattle.plsearch.specs.Types.{Result, Run}
+use Rattle.plsearch.specs.Types.{Result, Supply}
 use Rattle.plsearch.specs.Machines.Machine.{Back}
 use Rattle.pltransactions.specs.Laws.{wanted}
 use Rattle.pltransactions.proofs.Transactions.{open-asks-nothing}
@@ -100,7 +100,7 @@ module _ (f : Followed) (before behind : Mine) (g : ℕ) (us : List Update) (own
         stands = one.stands;
       }
 
-  looks : (n k : ℕ) (s : Taken) (extra : Mine) (r : Result) (run : Run) → StandsAt f k s → before ≡ started f s.made ++ extra → at_turn f (k + n) ≡ record { mode = Back r; cases = []; run = run } → IsAskedInTurn f before g us
+  looks : (n k : ℕ) (s : Taken) (extra : Mine) (r : Result) (run : Supply) → StandsAt f k s → before ≡ started f s.made ++ extra → at_turn f (k + n) ≡ record { mode = Back r; cases = []; run = run } → IsAskedInTurn f before g us
   looks zero k s extra r run stood front is =
       let same : k ≡ k + 0 = omega arith in
       let ends = ceases f s k r run stood (ap (at_turn f) same ∙ is) in

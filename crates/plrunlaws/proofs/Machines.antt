@@ -2,7 +2,7 @@
 use Rattle.std.proofs.Common.{◌≡◌, ℕ, zero, suc, ◌+◌, List, [], ◌∷◌, ◌++◌, Option, Some, None, refl, sym, ap, ◌∙◌, subst, arith}
 use Rattle.plevent.specs.Search.{Item, Answer}
 use Rattle.plprogram.specs.Program.{Program}
-use Rattle.plsearch.specs.Types.{Result, Fail, Halted, Awaits, Stopped, Unfit, Element, Place, Case, Choice, Mark, Handle, Catch, Gather, Undo, Move, Give, Go, Meeting, Select, Asks, End, Pass, Marked, Return, Keep, Again, Anew, Run}
+use Rattle.plsearch.specs.Types.{Result, Fail, Halted, Awaits, Stopped, Unfit, Element, Resolvent, Case, Choice, Mark, Handle, Catch, Gather, Undo, Move, Give, Go, Meeting, Select, Asks, End, Pass, Marked, Return, Keep, Again, Anew, Supply}
 use Rattle.plsearch.specs.Rows.{select, meet}
 use Rattle.plsearch.specs.Replies.{answered, founded}
 use Rattle.plsearch.specs.Handlers.{resume}
@@ -29,12 +29,12 @@ with_answers xs m = record m { run = record m.run { answers = xs } }
 some-none : {A : Type 0} (q : Item) → ◌≡◌ {A = Option Item} (Some q) None → A
 some-none q is = none-some q (sym is)
 
-move-with : (cases : List Case) (run : Run) (xs : List Answer) (m : Move) → move cases (record run { answers = xs }) m ≡ with_answers xs (move cases run m)
+move-with : (cases : List Case) (run : Supply) (xs : List Answer) (m : Move) → move cases (record run { answers = xs }) m ≡ with_answers xs (move cases run m)
 move-with cases run xs (Give r w) = refl
 move-with cases run xs (Go cs p w) = refl
 
 -- a turn that asks nothing
-meets-with : (P : Program) (cases : List Case) (e : Element) (es : List Element) (n : ℕ) (run : Run) (xs : List Answer) (m : Meeting) → asked_by m ≡ None →
+meets-with : (P : Program) (cases : List Case) (e : Element) (es : List Element) (n : ℕ) (run : Supply) (xs : List Answer) (m : Meeting) → asked_by m ≡ None →
     meets P cases e es n (record run { answers = xs }) m ≡ with_answers xs (meets P cases e es n run m)
 meets-with P cases e es n run xs (Select k t) is = go run.steps
   where
@@ -46,23 +46,23 @@ meets-with P cases e es n run xs (End r w) is = refl
 meets-with P cases e es n run xs (Pass w) is = refl
 meets-with P cases e es n run xs (Marked l us w) is = refl
 
-visits-with : (P : Program) (cases : List Case) (es : List Element) (n : ℕ) (run : Run) (xs : List Answer) → asked_first es run.local ≡ None →
+visits-with : (P : Program) (cases : List Case) (es : List Element) (n : ℕ) (run : Supply) (xs : List Answer) → asked_first es run.local ≡ None →
     visits P cases es n (record run { answers = xs }) ≡ with_answers xs (visits P cases es n run)
 visits-with P cases [] n run xs is = refl
 visits-with P cases (e ∷ es) n run xs is = meets-with P cases e es n run xs (meet e es run.local) is
 
-choose-with : (cases : List Case) (run : Run) (xs : List Answer) (ps : List Place) (r : Result) → choose cases (record run { answers = xs }) ps r ≡ with_answers xs (choose cases run ps r)
+choose-with : (cases : List Case) (run : Supply) (xs : List Answer) (ps : List Resolvent) (r : Result) → choose cases (record run { answers = xs }) ps r ≡ with_answers xs (choose cases run ps r)
 choose-with cases run xs (p ∷ ps) Fail = refl
 choose-with cases run xs [] Fail = refl
 choose-with cases run xs (p ∷ ps) r = refl
 choose-with cases run xs [] r = refl
 
-return-with : (cases : List Case) (run : Run) (xs : List Answer) (b : Return) → return cases (record run { answers = xs }) b ≡ with_answers xs (return cases run b)
+return-with : (cases : List Case) (run : Supply) (xs : List Answer) (b : Return) → return cases (record run { answers = xs }) b ≡ with_answers xs (return cases run b)
 return-with cases run xs (Keep r w) = refl
 return-with cases run xs (Again p w) = refl
 return-with cases run xs (Anew p w) = refl
 
-backs-with : (r : Result) (run : Run) (xs : List Answer) (cases : List Case) → backs r (record run { answers = xs }) cases ≡ with_answers xs (backs r run cases)
+backs-with : (r : Result) (run : Supply) (xs : List Answer) (cases : List Case) → backs r (record run { answers = xs }) cases ≡ with_answers xs (backs r run cases)
 backs-with r run xs [] = refl
 backs-with r run xs (Choice ps ∷ cases) = choose-with cases run xs ps r
 backs-with r run xs (Mark l ∷ cases) = refl
@@ -77,7 +77,7 @@ silent-with P m xs is = go m.mode is
     go (Back r) is = backs-with r m.run xs m.cases
 
 -- a turn that takes an answer
-meets-taking : (P : Program) (cases : List Case) (e : Element) (es : List Element) (n : ℕ) (run : Run) (a : Answer) (more xs : List Answer) (q : Item) (m : Meeting) → asked_by m ≡ Some q →
+meets-taking : (P : Program) (cases : List Case) (e : Element) (es : List Element) (n : ℕ) (run : Supply) (a : Answer) (more xs : List Answer) (q : Item) (m : Meeting) → asked_by m ≡ Some q →
     run.answers ≡ a ∷ more → meets P cases e es n (record run { answers = a ∷ xs }) m ≡ with_answers xs (meets P cases e es n run m)
 meets-taking P cases e es n run a more xs q (Asks x) is some =
     subst (λ l. ask cases e es n x (record run { answers = a ∷ xs }) (a ∷ xs) ≡ with_answers xs (ask cases e es n x run l)) (sym some)
@@ -149,7 +149,7 @@ IsFinal Stopped = Unit {0}
 IsFinal Unfit = Unit {0}
 IsFinal r = ⊥
 
-final-backs : (r : Result) (c : Case) (cases : List Case) (run : Run) → IsFinal r → backs r run (c ∷ cases) ≡ record { mode = Back r; cases = cases; run = run }
+final-backs : (r : Result) (c : Case) (cases : List Case) (run : Supply) → IsFinal r → backs r run (c ∷ cases) ≡ record { mode = Back r; cases = cases; run = run }
 unfolding resume
 final-backs (Halted n) (Choice []) cases run is = refl
 final-backs (Halted n) (Choice (p ∷ ps)) cases run is = refl
@@ -178,13 +178,13 @@ final-backs Unfit (Handle Undo p) cases run is = refl
 final-backs r c cases run is = absurd is
 
 -- it is what all comes to
-pub final-rest : (P : Program) (r : Result) (cases : List Case) (run : Run) → IsFinal r → Rest P (record { mode = Back r; cases = cases; run = run }) ≡ (r, run)
+pub final-rest : (P : Program) (r : Result) (cases : List Case) (run : Supply) → IsFinal r → Rest P (record { mode = Back r; cases = cases; run = run }) ≡ (r, run)
 unfolding Rest outs turn
 final-rest P r [] run is = refl
 final-rest P r (c ∷ cases) run is = Rest-turn P (record { mode = Back r; cases = c ∷ cases; run = run }) ∙ ap (Rest P) (final-backs r c cases run is) ∙ final-rest P r cases run is
 
 -- and nothing changes
-pub final-stays : (P : Program) (k : ℕ) (r : Result) (cases : List Case) (run : Run) → IsFinal r → (turns P k (record { mode = Back r; cases = cases; run = run })).run ≡ run
+pub final-stays : (P : Program) (k : ℕ) (r : Result) (cases : List Case) (run : Supply) → IsFinal r → (turns P k (record { mode = Back r; cases = cases; run = run })).run ≡ run
 unfolding turn
 final-stays P zero r cases run is = refl
 final-stays P (suc k) r [] run is = final-stays P k r [] run is

@@ -7,7 +7,7 @@ use Rattle.plevent.specs.declared.act.Act.{Act}
 use Rattle.plevent.specs.Search.{Item, Answer, Wants, Finishes, item_of}
 use Rattle.plhist.specs.Follows.{Taken, item_at, takes, from_start, FollowsAs}
 use Rattle.plprogram.specs.Program.{Program}
-use Rattle.plsearch.specs.Types.{Result, Awaits, Run}
+use Rattle.plsearch.specs.Types.{Result, Awaits, Supply}
 use Rattle.plsearch.specs.Engine.{out, outs}
 use Rattle.plsearch.specs.Search.{next_of, ending_of, search_of}
 use Rattle.plsearch.specs.Machines.Machine.{Back, Rest, turn}
@@ -34,7 +34,7 @@ pub search-at : (P : Program) (limit k : ℕ) (xs : List Answer) → search_of P
 search-at P limit k xs = subst (λ s. search_of P limit limit xs ≡ ending_of s (Rest P (turns P k (machine_of P s xs)))) (least-same limit) (search-from P limit limit k xs)
 
 -- where its machine carries a result to the outside at some turn
-pub ends-with : (f : Followed) (k : ℕ) (r : Result) (run : Run) → Rest f.program (at_turn f k) ≡ (r, run) → next_of r ≡ Finishes f.came_to
+pub ends-with : (f : Followed) (k : ℕ) (r : Result) (run : Supply) → Rest f.program (at_turn f k) ≡ (r, run) → next_of r ≡ Finishes f.came_to
 ends-with f k r run is =
     ap (λ e. next_of e.0) (sym is) ∙ ap (λ e. e.next) (sym (search-at f.program f.limit k (answers f))) ∙ ap (λ e. e.next) f.ended.ends
 

@@ -13,7 +13,7 @@ use Rattle.plhist.specs.Follows.{own, Taken, replied}
 use Rattle.pltx.specs.Own.{any_open, nothing}
 use Rattle.pltx.specs.declared.level.Level.{Level}
 use Rattle.plprogram.specs.Program.{Program}
-use Rattle.plsearch.specs.Types.{Result, Halted, Stopped, Unfit, Transact, GoesOn, Await, Element, Marker, Asking, Place, Case, Mark, Run}
+use Rattle.plsearch.specs.Types.{Result, Halted, Stopped, Unfit, Transact, GoesOn, Await, Element, Marker, Asking, Resolvent, Case, Mark, Supply}
 use Rattle.plsearch.specs.Moves.{publishing}
 use Rattle.plsearch.specs.Rows.{meet}
 use Rattle.plsearch.specs.Replies.{answered}
@@ -114,13 +114,13 @@ published-or t us r g s s' is =
     (λ may goes is. inl (sym (the-same (with_batch g us s) s' is))) is
 
 -- a machine that is to publish updates, with the answer that the run has stopped
-stops : (P : Program) (us : List Update) (es : List Element) (n : ℕ) (cases : List Case) (run : Run) (others : List Answer) → run.answers ≡ Got Reply.Stopped ∷ others →
+stops : (P : Program) (us : List Update) (es : List Element) (n : ℕ) (cases : List Case) (run : Supply) (others : List Answer) → run.answers ≡ Got Reply.Stopped ∷ others →
     (turn P (record { mode = At (record { goals = Asking (Await (Publish us) GoesOn) ∷ es; variables = n }); cases = cases; run = run }))
     ≡ record { mode = Back Stopped; cases = cases; run = record run { answers = others } }
 unfolding turn meet answered
 stops P us es n cases run others is = ap (ask cases (Asking (Await (Publish us) GoesOn)) es n (Ask (Publish us)) run) is
 
-module _ (f : Followed) (k : ℕ) (s : Taken) (stood : StandsAt f k s) (u : Update) (us : List Update) (es : List Element) (n : ℕ) (cases : List Case) (run : Run)
+module _ (f : Followed) (k : ℕ) (s : Taken) (stood : StandsAt f k s) (u : Update) (us : List Update) (es : List Element) (n : ℕ) (cases : List Case) (run : Supply)
     (at : at_turn f k ≡ record { mode = At (record { goals = publishing (u ∷ us) es; variables = n }); cases = cases; run = run }) where
   -- where updates are to be published, they are
   publishes-there : (g : ℕ) × StandsAt f (suc k) (with_batch g (u ∷ us) s)
@@ -141,7 +141,7 @@ module _ (f : Followed) (k : ℕ) (s : Taken) (stood : StandsAt f k s) (u : Upda
 
 -- its end, behind which the run still stands where the view put it
 module _ (f : Followed) (j : ℕ) (s : Taken) (stood : StandsAt f (suc j) s) (later : List (ℕ × Act)) (owns : own f.run.thread f.journal ≡ started f s.made ++ later) where
-  published-here : (us : List Update) (es : List Element) (n : ℕ) (cases : List Case) (run : Run) →
+  published-here : (us : List Update) (es : List Element) (n : ℕ) (cases : List Case) (run : Supply) →
       at_turn f (suc j) ≡ record { mode = At (record { goals = publishing us es; variables = n }); cases = cases; run = run } → Publishes f (suc j) s us later
   published-here [] es n cases run at = tt
   published-here (u ∷ us) es n cases run at =
@@ -161,7 +161,7 @@ module _ (f : Followed) (j : ℕ) (s : Taken) (stood : StandsAt f (suc j) s) (la
       behind d l es goals [] levels = tt
       behind d l es goals (level ∷ outer ∷ ls) levels = tt
       behind d l es goals (level ∷ []) levels =
-          let place : Place = record { goals = es; variables = p.variables } in
+          let place : Resolvent = record { goals = es; variables = p.variables } in
           let here : m ≡ at_end d l place m.cases m.run =
           ap (λ mode. record { mode = mode; cases = m.cases; run = m.run }) at
           ∙ ap (λ goals. record { mode = At (record { goals = goals; variables = p.variables }); cases = m.cases; run = m.run }) goals in

@@ -14,7 +14,7 @@ use Rattle.plevent.specs.Rows.{finish_row, row, served}
 use Rattle.plevent.specs.Search.{Item, View, Ask, Answer, Next, Finishes, item_of_end, item_of, Seen, Got}
 use Rattle.plhist.specs.Follows.{Taken, is_not_yet, noted, item_at, takes, from_start, last_of, own}
 use Rattle.pltx.specs.Own.{any_open}
-use Rattle.plsearch.specs.Types.{Result, Stop, Fail, CutTo, Throw, Halted, Spent, Awaits, Stopped, Unfit, Run}
+use Rattle.plsearch.specs.Types.{Result, Stop, Fail, CutTo, Throw, Halted, Spent, Awaits, Stopped, Unfit, Supply}
 use Rattle.plsearch.specs.Engine.{outs}
 use Rattle.plsearch.specs.Search.{next_of}
 use Rattle.plsearch.specs.Machines.Machine.{Back, Rest, turn}
@@ -111,12 +111,12 @@ asks-then f k s stood =
     let same : used.used ≡ s.answers = append_cancel_right used.used s.answers (at_turn f k).run.answers (sym used.all ∙ stood.taken) in
     ap (λ e. e.next) (search-at P f.limit k s.answers) ∙ ap (λ m. next_of (Rest P m).0) (ap (λ xs. turns P k (machine_of P f.limit xs)) (sym same) ∙ used.comes)
 
-over-rest : (f : Followed) (r : Result) (run : Run) → Rest f.program (record { mode = Back r; cases = []; run = run }) ≡ (r, run)
+over-rest : (f : Followed) (r : Result) (run : Supply) → Rest f.program (record { mode = Back r; cases = []; run = run }) ≡ (r, run)
 unfolding Rest outs
 over-rest f r run = refl
 
 -- behind the end of its machine's turns a thread makes nothing but its end
-pub ceases : (f : Followed) (s : Taken) (i : ℕ) (r : Result) (run : Run) → StandsAt f i s → at_turn f i ≡ record { mode = Back r; cases = []; run = run } → AddsEnds (act_of f.came_to) s f.ended.asked.last
+pub ceases : (f : Followed) (s : Taken) (i : ℕ) (r : Result) (run : Supply) → StandsAt f i s → at_turn f i ≡ record { mode = Back r; cases = []; run = run } → AddsEnds (act_of f.came_to) s f.ended.asked.last
 ceases f s i r run stood is =
     let over : asks f s.answers ≡ Finishes f.came_to =
     asks-then f i s stood
@@ -126,7 +126,7 @@ ceases f s i r run stood is =
     takes-ends (asks f) f.journal f.run.thread f.came_to stood.later s f.ended.asked.last (stays-ended f s f.came_to over) stood.rest
 
 -- an end of the machine's turns that comes later than any turn
-over-late : (f : Followed) → (n : ℕ) → (k : ℕ) (r : Result) (run : Run) → at_turn f k ≡ record { mode = Back r; cases = []; run = run } → at_turn f (k + n) ≡ record { mode = Back r; cases = []; run = run }
+over-late : (f : Followed) → (n : ℕ) → (k : ℕ) (r : Result) (run : Supply) → at_turn f k ≡ record { mode = Back r; cases = []; run = run } → at_turn f (k + n) ≡ record { mode = Back r; cases = []; run = run }
 unfolding turn
 over-late f n k r run is = turns-both f.program k n (machine_of f.program f.limit (answers f)) ∙ ap (turns f.program n) is ∙ still n
   where
@@ -134,7 +134,7 @@ over-late f n k r run is = turns-both f.program k n (machine_of f.program f.limi
     still zero = refl
     still (suc n) = still n
 
-pub comes-to-end : (f : Followed) → (n : ℕ) × (r : Result) × (run : Run) × (at_turn f n ≡ record { mode = Back r; cases = []; run = run })
+pub comes-to-end : (f : Followed) → (n : ℕ) × (r : Result) × (run : Supply) × (at_turn f n ≡ record { mode = Back r; cases = []; run = run })
 comes-to-end f =
     let end = search-by-turns f.program f.limit f.limit (answers f) in
     (end.0, end.1, end.2, ap (λ steps. turns f.program end.0 (machine_of f.program steps (answers f))) (sym (least-same f.limit)) ∙ end.3)
@@ -176,7 +176,7 @@ module _ (f : Followed) (k : ℕ) (lasts : LastsToTheEnd f k) (begun : Taken) wh
       let final = last-final halt.0 end.0 end.1 in
       let rest : Rest f.program (at_turn f (suc i)) ≡ (end.0, run) =
       ap (λ mode. Rest f.program (record { mode = mode; cases = cases; run = run })) there ∙ final-rest f.program end.0 cases run final in
-      let short : Run = record run { answers = [] } in
+      let short : Supply = record run { answers = [] } in
       let rest_short : Rest f.program (with_answers [] (at_turn f (suc i))) ≡ (end.0, short) =
       ap (λ mode. Rest f.program (record { mode = mode; cases = cases; run = short })) there ∙ final-rest f.program end.0 cases short final in
       let ends = ends-with f (suc i) end.0 run rest in
@@ -191,7 +191,7 @@ module _ (f : Followed) (k : ℕ) (lasts : LastsToTheEnd f k) (begun : Taken) wh
       )
 
   -- or it comes to its end with nothing asked
-  spends : (i : ℕ) (r : Result) (run : Run) → k < i → StandsAt f i begun → at_turn f i ≡ record { mode = Back r; cases = []; run = run } → ItsEnd
+  spends : (i : ℕ) (r : Result) (run : Supply) → k < i → StandsAt f i begun → at_turn f i ≡ record { mode = Back r; cases = []; run = run } → ItsEnd
   spends i r run after stood is = (short-end r f.came_to open_there (ends-with f i r run (ap (Rest f.program) is ∙ over-rest f r run)), ceases f begun i r run stood is)
     where
       open_there : IsDone r → ⊥
@@ -202,7 +202,7 @@ module _ (f : Followed) (k : ℕ) (lasts : LastsToTheEnd f k) (begun : Taken) wh
           never : true ≡ false → ⊥
           never is = cc
 
-  looks : (n i : ℕ) (r : Result) (run : Run) → k < i → StandsAt f i begun → at_turn f (i + n) ≡ record { mode = Back r; cases = []; run = run } → ItsEnd
+  looks : (n i : ℕ) (r : Result) (run : Supply) → k < i → StandsAt f i begun → at_turn f (i + n) ≡ record { mode = Back r; cases = []; run = run } → ItsEnd
   looks zero i r run after stood is = let same : i ≡ i + 0 = omega arith in spends i r run after stood (ap (at_turn f) same ∙ is)
   looks (suc n) i r run after stood is = go (wanted (at_turn f i)) refl (looks n (suc i) r run (omega (arith, after)))
     where
@@ -211,7 +211,7 @@ module _ (f : Followed) (k : ℕ) (lasts : LastsToTheEnd f k) (begun : Taken) wh
       go (Some q) asked more = halts i q after stood asked
 
 -- what begins has its end, or something is open to the end of the run
-scans : (f : Followed) (k : ℕ) → is_open f k ≡ false → (n j : ℕ) (r : Result) (run : Run) → k < j → ((i : ℕ) → k < i → i ≤ j → is_open f i ≡ true) →
+scans : (f : Followed) (k : ℕ) → is_open f k ≡ false → (n j : ℕ) (r : Result) (run : Supply) → k < j → ((i : ℕ) → k < i → i ≤ j → is_open f i ≡ true) →
     at_turn f (j + n) ≡ record { mode = Back r; cases = []; run = run } → ((j : ℕ) × Lasts f k j) ⊎ LastsToTheEnd f k
 scans f k before zero j r run longer between is = inr (record { before = before; behind = behind })
   where

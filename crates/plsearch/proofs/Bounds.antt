@@ -14,7 +14,7 @@ use Rattle.plevent.specs.Search.{Item, Ask, Answer}
 use Rattle.pltx.specs.Own.{any_open, ended, ending, erased_in, made, target_at}
 use Rattle.plprogram.specs.Program.{Program}
 use Rattle.plbuiltin.specs.Solution.{Solution}
-use Rattle.plsearch.specs.Types.{Result, Stop, Fail, CutTo, Throw, Halted, Spent, Awaits, Stopped, Unfit, Commit, Never, Until, Collect, Transact, GoesOn, Question, Await, Element, Goal, Marker, Raise, Asking, Place, Case, Choice, Mark, Handle, Handler, Catch, Gather, Undo, Return, Keep, Again, Anew, Local, Move, Give, Go, Asks, End, Pass, Run}
+use Rattle.plsearch.specs.Types.{Result, Stop, Fail, CutTo, Throw, Halted, Spent, Awaits, Stopped, Unfit, Commit, Never, Until, Collect, Transact, GoesOn, Question, Await, Element, Goal, Marker, Raise, Asking, Resolvent, Case, Choice, Mark, Handle, Handler, Catch, Gather, Undo, Return, Keep, Again, Anew, Local, Move, Give, Go, Asks, End, Pass, Supply}
 use Rattle.plsearch.specs.Lists.{bind_goals}
 use Rattle.plsearch.specs.Running.{Runnable, Runs, Raises, runnable}
 use Rattle.plsearch.specs.Collecting.{copies_from, dropped, gathered}
@@ -74,7 +74,7 @@ ReturnAllows C N d (Keep r w) = Bounded C N r
 ReturnAllows C N d (Again p w) = AllAllow C N p.goals
 ReturnAllows C N d (Anew p w) = AllAllow (also C d) N p.goals
 
-resume-allowed : (C N : Levels) (d : ℕ) (h : Handler) (p : Place) (r : Result) (w : Local) → AllAllow C N p.goals → Bounded C N r → ReturnAllows C N d (resume h p d r w)
+resume-allowed : (C N : Levels) (d : ℕ) (h : Handler) (p : Resolvent) (r : Result) (w : Local) → AllAllow C N p.goals → Bounded C N r → ReturnAllows C N d (resume h p d r w)
 unfolding resume ReturnAllows Bounded AllAllow Allows
 resume-allowed C N d (Catch c r) p (Throw b ls) w all bounded = met (has d ls)
   where
@@ -108,9 +108,9 @@ resume-allowed C N d Undo p x w all bounded = undo x bounded
 
 module _ (P : Program) where
   Claim : ℕ → Type 0
-  Claim k = (C N : Levels) (d : ℕ) (p : Place) (run : Run) → left run < k → Holds N d → AllAllow C N p.goals → Bounded C N (Visit P d p run).0
+  Claim k = (C N : Levels) (d : ℕ) (p : Resolvent) (run : Supply) → left run < k → Holds N d → AllAllow C N p.goals → Bounded C N (Visit P d p run).0
 
-  choice-bounded : (k : ℕ) → Claim k → (C N : Levels) (d : ℕ) → Holds N d → (ps : List Place) (r : Result) (run : Run) → left run < k →
+  choice-bounded : (k : ℕ) → Claim k → (C N : Levels) (d : ℕ) → Holds N d → (ps : List Resolvent) (r : Result) (run : Supply) → left run < k →
       PlacesAllow (also C d) N ps → Bounded (also C d) N r → Bounded C N (choice (Visit P) d ps r run).0
   unfolding choice Claim PlacesAllow
   choice-bounded k h C N d holds (p ∷ ps) Fail run lt all bounded =
@@ -119,13 +119,13 @@ module _ (P : Program) where
   choice-bounded k h C N d holds [] Fail run lt all bounded = stop-bounded C N d Fail bounded
   choice-bounded k h C N d holds ps r run lt all bounded = stop-bounded C N d r bounded
 
-  returned-bounded : (k : ℕ) → Claim k → (C N : Levels) (d : ℕ) → Holds N d → (b : Return) (run : Run) → left run < k →
+  returned-bounded : (k : ℕ) → Claim k → (C N : Levels) (d : ℕ) → Holds N d → (b : Return) (run : Supply) → left run < k →
       ReturnAllows C N d b → Bounded C N (returned (Visit P) d b run).0
   unfolding Claim ReturnAllows PlacesAllow
   returned-bounded k h C N d holds (Keep r w) run lt all = all
   returned-bounded k h C N d holds (Again p w) run lt all = h C N d p (record run { local = w }) lt holds all
   returned-bounded k h C N d holds (Anew p w) run lt all =
-      let run' : Run = record run { local = w } in
+      let run' : Supply = record run { local = w } in
       let e = Visit P (suc d) p run' in
       choice-bounded k h C N d holds [] e.0 e.1 (omega (arith, Visit-left P (suc d) p run')) (none (also C d)) (h (also C d) N (suc d) p run' lt (holds-deeper N d (suc d) (omega arith) holds) all)
     where
@@ -147,29 +147,29 @@ module _ (P : Program) where
       outs-bounded k h C N d holds cs (out (Visit P) (deeper cs d) c e) (omega (arith, out-left P [] (deeper cs d) c e)) all.1
       (out-bounded k h (within C d cs) N (deeper cs d) (holds-deeper N d (deeper cs d) (deeper-above cs d) holds) c e lt all.0 bounded)
 
-  moved-bounded : (k : ℕ) → Claim k → (C N : Levels) (d : ℕ) → Holds N d → (m : Move) (run : Run) → left run < k → MoveAllows C N d m → Bounded C N (moved (Visit P) d m run).0
+  moved-bounded : (k : ℕ) → Claim k → (C N : Levels) (d : ℕ) → Holds N d → (m : Move) (run : Supply) → left run < k → MoveAllows C N d m → Bounded C N (moved (Visit P) d m run).0
   unfolding moved Claim MoveAllows
   moved-bounded k h C N d holds (Give r w) run lt all = all
   moved-bounded k h C N d holds (Go cs p w) run lt all =
-      let run' : Run = record run { local = w } in
+      let run' : Supply = record run { local = w } in
       outs-bounded k h C N d holds cs (Visit P (deeper cs d) p run') (omega (arith, Visit-left P (deeper cs d) p run')) all.0
       (h (within C d cs) N (deeper cs d) p run' lt (holds-deeper N d (deeper cs d) (deeper-above cs d) holds) all.1)
 
   stepped-bounded : (k : ℕ) → Claim k → (C N : Levels) (d : ℕ) → Holds N d → (row : Local → Move) → ((w : Local) → MoveAllows C N d (row w)) →
-      (run : Run) (n : ℕ) → n + length run.answers ≤ k → Bounded C N (stepped (Visit P) row d (record run { steps = n }) n).0
+      (run : Supply) (n : ℕ) → n + length run.answers ≤ k → Bounded C N (stepped (Visit P) row d (record run { steps = n }) n).0
   unfolding Bounded
   stepped-bounded k h C N d holds row all run zero le = tt
   stepped-bounded k h C N d holds row all run (suc n) le = moved-bounded k h C N d holds (row run.local) (record run { steps = n }) (omega (arith, le)) (all run.local)
 
   asks-bounded : (k : ℕ) → Claim k → (C N : Levels) (d : ℕ) → Holds N d → (e : Element) (es : List Element) (n : ℕ) → AllAllow C N es →
-      (q : Item) (run : Run) (xs : List Answer) → run.steps + length xs ≤ k → Bounded C N (asks (Visit P) e es n q d (record run { answers = xs }) xs).0
+      (q : Item) (run : Supply) (xs : List Answer) → run.steps + length xs ≤ k → Bounded C N (asks (Visit P) e es n q d (record run { answers = xs }) xs).0
   unfolding Bounded
   asks-bounded k h C N d holds e es n all q run [] le = tt
   asks-bounded k h C N d holds e es n all q run (a ∷ xs) le =
       moved-bounded k h C N d holds (answered e a d es n run.local) (record run { answers = xs; below = founded e a run.below }) (omega (arith, le)) (answered-allowed C N d holds e a es n run.local all)
 
   erasing-bounded : (k : ℕ) → Claim k → (C N : Levels) (d : ℕ) → Holds N d → (x : ClauseName) (es : List Element) (n : ℕ) → AllAllow C N es →
-      (run : Run) → left run ≤ k → ((w : Local) → Bounded C N (walk P (Visit P) es n d (record run { local = w })).0) →
+      (run : Supply) → left run ≤ k → ((w : Local) → Bounded C N (walk P (Visit P) es n d (record run { local = w })).0) →
       Bounded C N (met P (Visit P) (walk P (Visit P) es n) (Asking (Question.Erase x)) es n d run (erasing x run.local)).0
   unfolding Bounded
   erasing-bounded k h C N d holds x es n all run le on = go (not (any_open run.local.own)) (erased_in (target_at run.local.own.base x) run.local.own.updates)
@@ -180,7 +180,7 @@ module _ (P : Program) where
       go false true = tt
       go false false = on (record run.local { own = made (Erase x) run.local.own })
 
-  publishes-bounded : (k : ℕ) → Claim k → (C N : Levels) (d : ℕ) → Holds N d → (es : List Element) (n : ℕ) → AllAllow C N es → (run : Run) → left run ≤ k →
+  publishes-bounded : (k : ℕ) → Claim k → (C N : Levels) (d : ℕ) → Holds N d → (es : List Element) (n : ℕ) → AllAllow C N es → (run : Supply) → left run ≤ k →
       Bounded C N (walk P (Visit P) es n d run).0 → (us : List Update) → Bounded C N (publishes (Visit P) (walk P (Visit P) es n) es n us d run).0
   publishes-bounded k h C N d holds es n all run le on [] = on
   publishes-bounded k h C N d holds es n all run le on (u ∷ us) = asks-bounded k h C N d holds (Asking (Await (Publish (u ∷ us)) GoesOn)) es n all (Ask (Publish (u ∷ us))) run run.answers le
@@ -190,7 +190,7 @@ module _ (P : Program) where
   unfolding out
   mark-out C N d l e is bounded = mark-bounded C N l e.0 is bounded
 
-  walk-bounded : (k : ℕ) → Claim k → (C N : Levels) (es : List Element) (n d : ℕ) → Holds N d → (run : Run) → left run ≤ k → AllAllow C N es → Bounded C N (walk P (Visit P) es n d run).0
+  walk-bounded : (k : ℕ) → Claim k → (C N : Levels) (es : List Element) (n d : ℕ) → Holds N d → (run : Supply) → left run ≤ k → AllAllow C N es → Bounded C N (walk P (Visit P) es n d run).0
   unfolding walk meet AllAllow Allows GivesUp Bounded
   walk-bounded k h C N [] n d holds run le all = tt
   walk-bounded k h C N (Goal j t ∷ es) n d holds run le all = stepped-bounded k h C N d holds (select P run.below j t d es n) (λ w. select-allowed C N d holds P run.below j t es n w all.0 all.1) run run.steps le
@@ -214,6 +214,6 @@ module _ (P : Program) where
   claims (suc k) C N d p run lt holds all =
       subst (λ e. Bounded C N e.0) (sym (Visit-walk P d p run)) (walk-bounded k (claims k) C N p.goals p.variables d holds run (omega arith) all)
 
-  pub visit-bounded : (C N : Levels) (d : ℕ) (p : Place) (run : Run) → Holds N d → AllAllow C N p.goals → Bounded C N (Visit P d p run).0
+  pub visit-bounded : (C N : Levels) (d : ℕ) (p : Resolvent) (run : Supply) → Holds N d → AllAllow C N p.goals → Bounded C N (Visit P d p run).0
   unfolding Claim
   visit-bounded C N d p run holds all = claims (suc (left run)) C N d p run (omega arith) holds all

@@ -4,7 +4,7 @@ use Rattle.std.specs.Prelude.{nat_le}
 use Rattle.std.proofs.lemmas.Bool.Decides.{nat_tests}
 use Rattle.plterm.specs.Tree.{Tree}
 use Rattle.plprogram.specs.Program.{Program}
-use Rattle.plsearch.specs.Types.{Result, Stop, Fail, CutTo, Throw, Halted, Spent, Awaits, Stopped, Unfit, Kind, Commit, Never, Until, Collect, Transact, Element, Goal, Marker, Raise, Asking, Place, Case, Choice, Mark, Handle, Handler, Catch, Gather, Undo, Run}
+use Rattle.plsearch.specs.Types.{Result, Stop, Fail, CutTo, Throw, Halted, Spent, Awaits, Stopped, Unfit, Kind, Commit, Never, Until, Collect, Transact, Element, Goal, Marker, Raise, Asking, Resolvent, Case, Choice, Mark, Handle, Handler, Catch, Gather, Undo, Supply}
 use Rattle.plsearch.specs.Handlers.{has, resume}
 use Rattle.plsearch.specs.Engine.{stop_cut, mark, deeper, choice, returned, out, outs, Visit}
 use Rattle.plsearch.specs.Machines.Levels.{IsKindAtMost, IsAtMost, AreAtMost, emptied}
@@ -115,13 +115,13 @@ stopped k d i Stopped lt h = refl
 stopped k d i Unfit lt h = refl
 
 module _ (P : Program) where
-  chosen : (k d i : ℕ) (ps : List Place) (r : Result) (run : Run) → k < i → Passes k d r → choice (Visit P) i ps r run ≡ (r, run)
+  chosen : (k d i : ℕ) (ps : List Resolvent) (r : Result) (run : Supply) → k < i → Passes k d r → choice (Visit P) i ps r run ≡ (r, run)
   unfolding choice Passes
   chosen k d i [] Fail run lt h = absurd h
   chosen k d i (p ∷ ps) Fail run lt h = absurd h
   chosen k d i ps r run lt h = ap (λ r. (r, run)) (stopped k d i r lt h)
 
-  kept : (k d i : ℕ) (h : Handler) (p : Place) (r : Result) (run : Run) → k < i → i < d → Passes k d r → returned (Visit P) i (resume h p i r run.local) run ≡ (r, run)
+  kept : (k d i : ℕ) (h : Handler) (p : Resolvent) (r : Result) (run : Supply) → k < i → i < d → Passes k d r → returned (Visit P) i (resume h p i r run.local) run ≡ (r, run)
   unfolding resume Passes
   kept k d i (Catch c x) p (Throw b ls) run lt below h = rw (not-behind k d i lt below ls h) refl
   kept k d i (Catch c x) p r run lt below h = refl
@@ -132,7 +132,7 @@ module _ (P : Program) where
   kept k d i Undo p r run lt below h = refl
 
   -- a case above k
-  out-passes : (k d i : ℕ) (c : Case) (r : Result) (run : Run) → k < i → i < d → Passes k d r → out (Visit P) i c (r, run) ≡ (r, run)
+  out-passes : (k d i : ℕ) (c : Case) (r : Result) (run : Supply) → k < i → i < d → Passes k d r → out (Visit P) i c (r, run) ≡ (r, run)
   unfolding out Passes
   out-passes k d i (Choice ps) r run lt below h = chosen k d i ps r run lt h
   out-passes k d i (Mark l) Fail run lt below h = absurd h
@@ -144,7 +144,7 @@ module _ (P : Program) where
   above-base k [] base is = omega (arith, is)
   above-base k (c ∷ cs) base is = let up = above-base k cs base is in omega arith
 
-  outs-pass : (k d : ℕ) (cs base : List Case) (r : Result) (run : Run) → deeper base 0 ≡ suc k → deeper (cs ++ base) 0 ≤ d → Passes k d r →
+  outs-pass : (k d : ℕ) (cs base : List Case) (r : Result) (run : Supply) → deeper base 0 ≡ suc k → deeper (cs ++ base) 0 ≤ d → Passes k d r →
       outs (Visit P) 0 (cs ++ base) (r, run) ≡ outs (Visit P) 0 base (r, run)
   unfolding outs
   outs-pass k d [] base r run is le h = refl
@@ -160,7 +160,7 @@ module _ (P : Program) where
   above-emptied k [] base is = is
   above-emptied k (c ∷ cs) base is = let up = above-emptied k cs base is in omega arith
 
-  empty-choice : (k d i : ℕ) (r : Result) (run : Run) → k < i → Bounded (low k) (apart k d) r → choice (Visit P) i [] r run ≡ (r, run)
+  empty-choice : (k d i : ℕ) (r : Result) (run : Supply) → k < i → Bounded (low k) (apart k d) r → choice (Visit P) i [] r run ≡ (r, run)
   unfolding choice Bounded
   empty-choice k d i Stop run lt h = refl
   empty-choice k d i Fail run lt h = refl
@@ -172,7 +172,7 @@ module _ (P : Program) where
   empty-choice k d i Stopped run lt h = refl
   empty-choice k d i Unfit run lt h = refl
 
-  emptied-pass : (k d : ℕ) (cs base : List Case) (r : Result) (run : Run) → k < deeper base 0 → Bounded (low k) (apart k d) r →
+  emptied-pass : (k d : ℕ) (cs base : List Case) (r : Result) (run : Supply) → k < deeper base 0 → Bounded (low k) (apart k d) r →
       outs (Visit P) 0 (emptied cs base) (r, run) ≡ outs (Visit P) 0 base (r, run)
   unfolding outs out
   emptied-pass k d [] base r run is h = refl
@@ -181,7 +181,7 @@ module _ (P : Program) where
       ∙ emptied-pass k d cs base r run is h
 
   -- the choice at the level k itself is given up
-  given-up : (k : ℕ) (ps : List Place) (r : Result) (run : Run) → choice (Visit P) k ps (mark k r) run ≡ choice (Visit P) k [] r run
+  given-up : (k : ℕ) (ps : List Resolvent) (r : Result) (run : Supply) → choice (Visit P) k ps (mark k r) run ≡ choice (Visit P) k [] r run
   unfolding choice
   given-up k [] Fail run = ap (λ r. (r, run)) (itself (nat_eq k k) refl)
     where
@@ -202,7 +202,7 @@ module _ (P : Program) where
   given-up k [] r run = refl
   given-up k (p ∷ ps) r run = refl
 
-  pub cuts-empty : (k : ℕ) (cs below : List Case) (ps : List Place) (p : Place) (run : Run) → deeper below 0 ≡ k → AreAtMost k p.goals →
+  pub cuts-empty : (k : ℕ) (cs below : List Case) (ps : List Resolvent) (p : Resolvent) (run : Supply) → deeper below 0 ≡ k → AreAtMost k p.goals →
       Rest P (record { mode = At p; cases = Mark k ∷ (cs ++ Choice ps ∷ below); run = run }) ≡ Rest P (record { mode = At p; cases = emptied (Mark k ∷ cs) (Choice [] ∷ below); run = run })
   unfolding Rest outs out
   cuts-empty k cs below ps p run is most =
@@ -217,11 +217,11 @@ module _ (P : Program) where
       ∙ sym (emptied-pass k d (Mark k ∷ cs) base' e.0 e.1 (omega (arith, is)) bounded)
       ∙ ap (λ n. outs (Visit P) 0 (emptied (Mark k ∷ cs) base') (Visit P (suc n) p run)) same
     where
-      at-level : (r : Result) (run : Run) → choice (Visit P) (deeper below 0) ps (mark k r) run ≡ choice (Visit P) (deeper below 0) [] r run
+      at-level : (r : Result) (run : Supply) → choice (Visit P) (deeper below 0) ps (mark k r) run ≡ choice (Visit P) (deeper below 0) [] r run
       at-level r run = rw is (given-up k ps r run)
 
   -- a catcher at a level between them keeps no ball
-  kept-on : (k d i : ℕ) (c x : Tree) (p : Place) (r : Result) (run : Run) → k < i → i < d → Bounded (low k) (apart k d) r →
+  kept-on : (k d i : ℕ) (c x : Tree) (p : Resolvent) (r : Result) (run : Supply) → k < i → i < d → Bounded (low k) (apart k d) r →
       returned (Visit P) i (resume (Catch c x) p i r run.local) run ≡ (r, run)
   unfolding resume Bounded
   kept-on k d i c x p (Throw b ls) run lt below h = rw (not-behind k d i lt below ls h) refl
@@ -231,7 +231,7 @@ module _ (P : Program) where
   emptied-alike [] base base' is = is
   emptied-alike (c ∷ cs) base base' is = ap suc (emptied-alike cs base base' is)
 
-  pub catchers-empty : (k : ℕ) (c x : Tree) (q : Place) (cs below : List Case) (p : Place) (run : Run) → deeper below 0 ≡ suc k → AreAtMost k p.goals →
+  pub catchers-empty : (k : ℕ) (c x : Tree) (q : Resolvent) (cs below : List Case) (p : Resolvent) (run : Supply) → deeper below 0 ≡ suc k → AreAtMost k p.goals →
       Rest P (record { mode = At p; cases = emptied cs (Handle (Catch c x) q ∷ below); run = run }) ≡ Rest P (record { mode = At p; cases = emptied cs (Choice [] ∷ below); run = run })
   unfolding Rest outs out
   catchers-empty k c x q cs below p run is most =

@@ -5,7 +5,7 @@ use Rattle.plevent.specs.declared.request.Request.TheVariants.{Publish}
 use Rattle.plevent.specs.declared.update.Update.{Update}
 use Rattle.plevent.specs.declared.request.ThreadEnd.{ThreadEnd}
 use Rattle.plprogram.specs.Program.{Program}
-use Rattle.plsearch.specs.Types.{Result, Stop, Fail, CutTo, Throw, Halted, Spent, Awaits, Stopped, Unfit, GoesOn, Await, Element, Asking, Place, Case, Choice, Mark, Handle, Catch, Gather, Undo, Return, Keep, Again, Anew, Local, Move, Give, Go, Meeting, Select, Asks, End, Pass, Marked, Run}
+use Rattle.plsearch.specs.Types.{Result, Stop, Fail, CutTo, Throw, Halted, Spent, Awaits, Stopped, Unfit, GoesOn, Await, Element, Asking, Resolvent, Case, Choice, Mark, Handle, Catch, Gather, Undo, Return, Keep, Again, Anew, Local, Move, Give, Go, Meeting, Select, Asks, End, Pass, Marked, Supply}
 use Rattle.plsearch.specs.Rows.{select, meet}
 use Rattle.plsearch.specs.Replies.{answered, founded}
 use Rattle.plsearch.specs.Handlers.{resume}
@@ -13,7 +13,7 @@ use Rattle.plsearch.specs.Engine.{Ended, deeper, choice, returned, out, outs, mo
 use Rattle.plsearch.specs.Search.{next_of, ending_of, from_start, start_of, search_of}
 use Rattle.plsearch.proofs.Fuel.{Agree, Same, out-agree, visit-agree, Visit-walk}
 
-pub Visit-left : (P : Program) (d : ℕ) (p : Place) (run : Run) → left (Visit P d p run).1 ≤ left run
+pub Visit-left : (P : Program) (d : ℕ) (p : Resolvent) (run : Supply) → left (Visit P d p run).1 ≤ left run
 unfolding Visit Agree
 Visit-left P d p run = (visit-agree P (left run) (left run) (le_refl _) d p run (omega arith)).1
 
@@ -40,21 +40,21 @@ or_asks Stopped = inl tt
 or_asks Unfit = inl tt
 
 module _ (P : Program) (further : List Answer) where
-  with_more : Run → Run
+  with_more : Supply → Supply
   with_more run = record run { answers = run.answers ++ further }
 
   Grows : Ended → Ended → Type 0
   Grows e e' = NotAsking e.0 → e' ≡ (e.0, with_more e.1)
 
   Claim : ℕ → Type 0
-  Claim k = (d : ℕ) (p : Place) (run : Run) → left run < k → Grows (Visit P d p run) (Visit P d p (with_more run))
+  Claim k = (d : ℕ) (p : Resolvent) (run : Supply) → left run < k → Grows (Visit P d p run) (Visit P d p (with_more run))
 
   itself : (k : ℕ) → Agree (Visit P) (Visit P) k
   unfolding Agree
   itself k d p run lt = (refl, Visit-left P d p run)
 
   abbrev Still : (Ended → Ended) → Type 0
-  Still f = (q : Item) (run : Run) → NotAsking (f (Awaits q, run)).0 → ⊥
+  Still f = (q : Item) (run : Supply) → NotAsking (f (Awaits q, run)).0 → ⊥
 
   -- what becomes of an end grows with it
   passed : (f : Ended → Ended) (e e' : Ended) → Still f → Grows e e' → (NotAsking e.0 → Grows (f e) (f (e.0, with_more e.1))) → Grows (f e) (f e')
@@ -65,12 +65,12 @@ module _ (P : Program) (further : List Answer) where
       go (inl n) = subst (λ x. Grows (f e) (f x)) (sym (g n)) (on n)
       go (inr a) = λ n. absurd (still a.0 e.1 (subst (λ r. NotAsking (f (r, e.1)).0) a.1 n))
 
-  choice-still : (ps : List Place) (d : ℕ) → Still (λ e. choice (Visit P) d ps e.0 e.1)
+  choice-still : (ps : List Resolvent) (d : ℕ) → Still (λ e. choice (Visit P) d ps e.0 e.1)
   unfolding choice
   choice-still [] d q run n = n
   choice-still (p ∷ ps) d q run n = n
 
-  choice-grows : (k : ℕ) → Claim k → (ps : List Place) (d : ℕ) (r : Result) (run : Run) → left run < k → NotAsking r →
+  choice-grows : (k : ℕ) → Claim k → (ps : List Resolvent) (d : ℕ) (r : Result) (run : Supply) → left run < k → NotAsking r →
       Grows (choice (Visit P) d ps r run) (choice (Visit P) d ps r (with_more run))
   unfolding choice Grows Claim with_more
   choice-grows k h (p ∷ ps) d Fail run lt n =
@@ -88,12 +88,12 @@ module _ (P : Program) (further : List Answer) where
   out-still (Handle (Gather l) p) d q run n = n
   out-still (Handle Undo p) d q run n = n
 
-  returned-grows : (k : ℕ) → Claim k → (d : ℕ) (b : Return) (run : Run) → left run < k → Grows (returned (Visit P) d b run) (returned (Visit P) d b (with_more run))
+  returned-grows : (k : ℕ) → Claim k → (d : ℕ) (b : Return) (run : Supply) → left run < k → Grows (returned (Visit P) d b run) (returned (Visit P) d b (with_more run))
   unfolding Grows with_more Claim
   returned-grows k h d (Keep r w) run lt = λ n. refl
   returned-grows k h d (Again p w) run lt = h d p (record run { local = w }) lt
   returned-grows k h d (Anew p w) run lt =
-      let run' : Run = record run { local = w } in
+      let run' : Supply = record run { local = w } in
       let e = Visit P (suc d) p run' in
       passed (λ e. choice (Visit P) d [] e.0 e.1) e (Visit P (suc d) p (with_more run')) (choice-still [] d) (h (suc d) p run' lt)
       (λ n. choice-grows k h [] d e.0 e.1 (omega (arith, Visit-left P (suc d) p run')) n)
@@ -114,34 +114,34 @@ module _ (P : Program) (further : List Answer) where
   outs-grows k h d (c ∷ cs) e e' lt g =
       outs-grows k h d cs (out (Visit P) (deeper cs d) c e) (out (Visit P) (deeper cs d) c e') (omega (arith, out-left (deeper cs d) c e)) (out-grows k h (deeper cs d) c e e' lt g)
 
-  moved-grows : (k : ℕ) → Claim k → (d : ℕ) (m : Move) (run : Run) → left run < k → Grows (moved (Visit P) d m run) (moved (Visit P) d m (with_more run))
+  moved-grows : (k : ℕ) → Claim k → (d : ℕ) (m : Move) (run : Supply) → left run < k → Grows (moved (Visit P) d m run) (moved (Visit P) d m (with_more run))
   unfolding moved Grows with_more Claim
   moved-grows k h d (Give r w) run lt = λ n. refl
   moved-grows k h d (Go cs p w) run lt =
       outs-grows k h d cs (Visit P (deeper cs d) p (record run { local = w })) (Visit P (deeper cs d) p (with_more (record run { local = w })))
       (omega (arith, Visit-left P (deeper cs d) p (record run { local = w }))) (h (deeper cs d) p (record run { local = w }) lt)
 
-  stepped-grows : (k : ℕ) → Claim k → (row : Local → Move) (d : ℕ) (run : Run) (n : ℕ) → n + length run.answers ≤ k →
+  stepped-grows : (k : ℕ) → Claim k → (row : Local → Move) (d : ℕ) (run : Supply) (n : ℕ) → n + length run.answers ≤ k →
       Grows (stepped (Visit P) row d (record run { steps = n }) n) (stepped (Visit P) row d (with_more (record run { steps = n })) n)
   unfolding Grows with_more
   stepped-grows k h row d run zero le = λ n. refl
   stepped-grows k h row d run (suc n) le = moved-grows k h d (row run.local) (record run { steps = n }) (omega (arith, le))
 
-  asks-grows : (k : ℕ) → Claim k → (e : Element) (es : List Element) (n : ℕ) (q : Item) (d : ℕ) (run : Run) (xs : List Answer) → run.steps + length xs ≤ k →
+  asks-grows : (k : ℕ) → Claim k → (e : Element) (es : List Element) (n : ℕ) (q : Item) (d : ℕ) (run : Supply) (xs : List Answer) → run.steps + length xs ≤ k →
       Grows (asks (Visit P) e es n q d (record run { answers = xs }) xs) (asks (Visit P) e es n q d (with_more (record run { answers = xs })) (xs ++ further))
   unfolding Grows with_more
   asks-grows k h e es n q d run [] le = λ n. absurd n
   asks-grows k h e es n q d run (a ∷ xs) le = moved-grows k h d (answered e a d es n run.local) (record run { answers = xs; below = founded e a run.below }) (omega (arith, le))
 
-  publishes-grows : (k : ℕ) → Claim k → (on : ℕ → Run → Ended) → ((d : ℕ) (run : Run) → left run ≤ k → Grows (on d run) (on d (with_more run))) →
-      (es : List Element) (n : ℕ) (us : List Update) (d : ℕ) (run : Run) → left run ≤ k →
+  publishes-grows : (k : ℕ) → Claim k → (on : ℕ → Supply → Ended) → ((d : ℕ) (run : Supply) → left run ≤ k → Grows (on d run) (on d (with_more run))) →
+      (es : List Element) (n : ℕ) (us : List Update) (d : ℕ) (run : Supply) → left run ≤ k →
       Grows (publishes (Visit P) on es n us d run) (publishes (Visit P) on es n us d (with_more run))
   unfolding with_more
   publishes-grows k h on o es n [] d run le = o d run le
   publishes-grows k h on o es n (u ∷ us) d run le = asks-grows k h (Asking (Await (Publish (u ∷ us)) GoesOn)) es n (Ask (Publish (u ∷ us))) d run run.answers le
 
-  met-grows : (k : ℕ) → Claim k → (on : ℕ → Run → Ended) → ((d : ℕ) (run : Run) → left run ≤ k → Grows (on d run) (on d (with_more run))) →
-      (e : Element) (es : List Element) (n d : ℕ) (run : Run) (m : Meeting) → left run ≤ k →
+  met-grows : (k : ℕ) → Claim k → (on : ℕ → Supply → Ended) → ((d : ℕ) (run : Supply) → left run ≤ k → Grows (on d run) (on d (with_more run))) →
+      (e : Element) (es : List Element) (n d : ℕ) (run : Supply) (m : Meeting) → left run ≤ k →
       Grows (met P (Visit P) on e es n d run m) (met P (Visit P) on e es n d (with_more run) m)
   unfolding Grows with_more out
   met-grows k h on o e es n d run (Select j t) le = stepped-grows k h (select P run.below j t d es n) d run run.steps le
@@ -149,10 +149,10 @@ module _ (P : Program) (further : List Answer) where
   met-grows k h on o e es n d run (End r w) le = λ n. refl
   met-grows k h on o e es n d run (Pass w) le = o d (record run { local = w }) le
   met-grows k h on o e es n d run (Marked l us w) le =
-      let run' : Run = record run { local = w } in
+      let run' : Supply = record run { local = w } in
       passed (out (Visit P) d (Mark l)) (publishes (Visit P) on es n us (suc d) run') (publishes (Visit P) on es n us (suc d) (with_more run')) (out-still (Mark l) d) (publishes-grows k h on o es n us (suc d) run' le) (λ n m. refl)
 
-  walk-grows : (k : ℕ) → Claim k → (es : List Element) (n d : ℕ) (run : Run) → left run ≤ k → Grows (walk P (Visit P) es n d run) (walk P (Visit P) es n d (with_more run))
+  walk-grows : (k : ℕ) → Claim k → (es : List Element) (n d : ℕ) (run : Supply) → left run ≤ k → Grows (walk P (Visit P) es n d run) (walk P (Visit P) es n d (with_more run))
   unfolding walk Grows with_more
   walk-grows k h [] n d run le = λ n. refl
   walk-grows k h (e ∷ es) n d run le = met-grows k h (walk P (Visit P) es n) (walk-grows k h es n) e es n d run (meet e es run.local) le
@@ -165,7 +165,7 @@ module _ (P : Program) (further : List Answer) where
       (subst (λ x. Grows (walk P (Visit P) p.goals p.variables d run) x) (sym (Visit-walk P d p (with_more run)))
       (walk-grows k (claims k) p.goals p.variables d run (omega arith)))
 
-  pub visit-grows : (d : ℕ) (p : Place) (run : Run) → NotAsking (Visit P d p run).0 →
+  pub visit-grows : (d : ℕ) (p : Resolvent) (run : Supply) → NotAsking (Visit P d p run).0 →
       Visit P d p (record run { answers = run.answers ++ further }) ≡ ((Visit P d p run).0, record (Visit P d p run).1 { answers = (Visit P d p run).1.answers ++ further })
   unfolding Grows with_more Claim
   visit-grows d p run = claims (suc (left run)) d p run (omega arith)

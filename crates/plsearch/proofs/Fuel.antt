@@ -4,7 +4,7 @@ use Rattle.plevent.specs.Search.{Item, Ask, Answer}
 use Rattle.plevent.specs.declared.request.Request.TheVariants.{Publish}
 use Rattle.plevent.specs.declared.update.Update.{Update}
 use Rattle.plprogram.specs.Program.{Program}
-use Rattle.plsearch.specs.Types.{Result, Fail, Spent, GoesOn, Await, Element, Asking, Place, Case, Choice, Mark, Handle, Local, Move, Give, Go, Meeting, Select, Asks, End, Pass, Marked, Return, Keep, Again, Anew, Run}
+use Rattle.plsearch.specs.Types.{Result, Fail, Spent, GoesOn, Await, Element, Asking, Resolvent, Case, Choice, Mark, Handle, Local, Move, Give, Go, Meeting, Select, Asks, End, Pass, Marked, Return, Keep, Again, Anew, Supply}
 use Rattle.plsearch.specs.Rows.{select, meet}
 use Rattle.plsearch.specs.Replies.{answered, founded}
 use Rattle.plsearch.specs.Handlers.{resume}
@@ -12,9 +12,9 @@ use Rattle.plsearch.specs.Engine.{Ended, Visitor, deeper, choice, returned, out,
 
 -- below k the two visit alike, and no visit makes steps or answers
 unfoldable pub Agree : Visitor → Visitor → ℕ → Type 0
-Agree f g k = (d : ℕ) (p : Place) (run : Run) → left run < k → (f d p run ≡ g d p run) × (left (f d p run).1 ≤ left run)
+Agree f g k = (d : ℕ) (p : Resolvent) (run : Supply) → left run < k → (f d p run ≡ g d p run) × (left (f d p run).1 ≤ left run)
 
-pub choice-agree : (f g : Visitor) (k : ℕ) → Agree f g k → (ps : List Place) (d : ℕ) (r : Result) (run : Run) → left run < k →
+pub choice-agree : (f g : Visitor) (k : ℕ) → Agree f g k → (ps : List Resolvent) (d : ℕ) (r : Result) (run : Supply) → left run < k →
     (choice f d ps r run ≡ choice g d ps r run) × (left (choice f d ps r run).1 ≤ left run)
 unfolding choice Agree
 choice-agree f g k h (p ∷ ps) d Fail run lt =
@@ -28,7 +28,7 @@ choice-agree f g k h ps d r run lt = (refl, le_refl _)
 unfoldable pub Same : Ended → Ended → ℕ → Type 0
 Same e e' k = (e ≡ e') × (left e.1 ≤ k)
 
-returned-agree : (f g : Visitor) (k : ℕ) → Agree f g k → (d : ℕ) (b : Return) (run : Run) → left run < k →
+returned-agree : (f g : Visitor) (k : ℕ) → Agree f g k → (d : ℕ) (b : Return) (run : Supply) → left run < k →
     Same (returned f d b run) (returned g d b run) (left run)
 unfolding Agree Same choice
 returned-agree f g k h d (Keep r w) run lt = (refl, le_refl _)
@@ -55,7 +55,7 @@ outs-agree f g k h d (c ∷ cs) e lt =
     let more = outs-agree f g k h d cs (out f (deeper cs d) c e) (omega (arith, one.1, lt)) in
     (more.0 ∙ ap (outs g d cs) one.0, le_trans more.1 one.1)
 
-moved-agree : (f g : Visitor) (k : ℕ) → Agree f g k → (d : ℕ) (m : Move) (run : Run) → left run < k →
+moved-agree : (f g : Visitor) (k : ℕ) → Agree f g k → (d : ℕ) (m : Move) (run : Supply) → left run < k →
     Same (moved f d m run) (moved g d m run) (left run)
 unfolding Agree Same moved
 moved-agree f g k h d (Give r w) run lt = (refl, le_refl _)
@@ -64,7 +64,7 @@ moved-agree f g k h d (Go cs p w) run lt =
     let more = outs-agree f g k h d cs (f (deeper cs d) p (record run { local = w })) (omega (arith, one.1, lt)) in
     (more.0 ∙ ap (outs g d cs) one.0, le_trans more.1 one.1)
 
-stepped-agree : (f g : Visitor) (k : ℕ) → Agree f g k → (row : Local → Move) (d : ℕ) (run : Run) (n : ℕ) → n + length run.answers ≤ k →
+stepped-agree : (f g : Visitor) (k : ℕ) → Agree f g k → (row : Local → Move) (d : ℕ) (run : Supply) (n : ℕ) → n + length run.answers ≤ k →
     Same (stepped f row d (record run { steps = n }) n) (stepped g row d (record run { steps = n }) n) (n + length run.answers)
 unfolding Same
 stepped-agree f g k h row d run zero le = (refl, le_refl _)
@@ -72,7 +72,7 @@ stepped-agree f g k h row d run (suc n) le =
     let one = moved-agree f g k h d (row run.local) (record run { steps = n }) (omega (arith, le)) in
     (one.0, omega (arith, one.1))
 
-asks-agree : (f g : Visitor) (k : ℕ) → Agree f g k → (e : Element) (es : List Element) (n : ℕ) (q : Item) (d : ℕ) (run : Run) (xs : List Answer) → run.steps + length xs ≤ k →
+asks-agree : (f g : Visitor) (k : ℕ) → Agree f g k → (e : Element) (es : List Element) (n : ℕ) (q : Item) (d : ℕ) (run : Supply) (xs : List Answer) → run.steps + length xs ≤ k →
     Same (asks f e es n q d (record run { answers = xs }) xs) (asks g e es n q d (record run { answers = xs }) xs) (run.steps + length xs)
 unfolding Same
 asks-agree f g k h e es n q d run [] le = (refl, le_refl _)
@@ -80,16 +80,16 @@ asks-agree f g k h e es n q d run (a ∷ xs) le =
     let one = moved-agree f g k h d (answered e a d es n run.local) (record run { answers = xs; below = founded e a run.below }) (omega (arith, le)) in
     (one.0, omega (arith, one.1))
 
-publishes-agree : (f g : Visitor) (k : ℕ) → Agree f g k → (f' g' : ℕ → Run → Ended) →
-    ((d : ℕ) (run : Run) → left run ≤ k → Same (f' d run) (g' d run) (left run)) →
-    (es : List Element) (n : ℕ) (us : List Update) (d : ℕ) (run : Run) → left run ≤ k →
+publishes-agree : (f g : Visitor) (k : ℕ) → Agree f g k → (f' g' : ℕ → Supply → Ended) →
+    ((d : ℕ) (run : Supply) → left run ≤ k → Same (f' d run) (g' d run) (left run)) →
+    (es : List Element) (n : ℕ) (us : List Update) (d : ℕ) (run : Supply) → left run ≤ k →
     Same (publishes f f' es n us d run) (publishes g g' es n us d run) (left run)
 publishes-agree f g k h f' g' on es n [] d run le = on d run le
 publishes-agree f g k h f' g' on es n (u ∷ us) d run le = asks-agree f g k h (Asking (Await (Publish (u ∷ us)) GoesOn)) es n (Ask (Publish (u ∷ us))) d run run.answers le
 
-met-agree : (P : Program) (f g : Visitor) (k : ℕ) → Agree f g k → (f' g' : ℕ → Run → Ended) →
-    ((d : ℕ) (run : Run) → left run ≤ k → Same (f' d run) (g' d run) (left run)) →
-    (e : Element) (es : List Element) (n d : ℕ) (run : Run) (m : Meeting) → left run ≤ k →
+met-agree : (P : Program) (f g : Visitor) (k : ℕ) → Agree f g k → (f' g' : ℕ → Supply → Ended) →
+    ((d : ℕ) (run : Supply) → left run ≤ k → Same (f' d run) (g' d run) (left run)) →
+    (e : Element) (es : List Element) (n d : ℕ) (run : Supply) (m : Meeting) → left run ≤ k →
     Same (met P f f' e es n d run m) (met P g g' e es n d run m) (left run)
 unfolding Same out
 met-agree P f g k h f' g' on e es n d run (Select j t) le = stepped-agree f g k h (select P run.below j t d es n) d run run.steps le
@@ -100,7 +100,7 @@ met-agree P f g k h f' g' on e es n d run (Marked l us w) le =
     let one = publishes-agree f g k h f' g' on es n us (suc d) (record run { local = w }) le in
     (ap (out g d (Mark l)) one.0, one.1)
 
-pub walk-agree : (P : Program) (f g : Visitor) (k : ℕ) → Agree f g k → (es : List Element) (n d : ℕ) (run : Run) → left run ≤ k →
+pub walk-agree : (P : Program) (f g : Visitor) (k : ℕ) → Agree f g k → (es : List Element) (n d : ℕ) (run : Supply) → left run ≤ k →
     Same (walk P f es n d run) (walk P g es n d run) (left run)
 unfolding Same walk
 walk-agree P f g k h [] n d run le = (refl, le_refl _)
@@ -115,7 +115,7 @@ visit-agree P (suc k) zero le d p run lt = absurd (omega arith)
 visit-agree P (suc k) (suc m) le d p run lt = walk-agree P (visit_in P k) (visit_in P m) (suc k) (visit-agree P k m (omega arith)) p.goals p.variables d run (omega arith)
 
 -- the search, unfolded once
-pub Visit-walk : (P : Program) (d : ℕ) (p : Place) (run : Run) → Visit P d p run ≡ walk P (Visit P) p.goals p.variables d run
+pub Visit-walk : (P : Program) (d : ℕ) (p : Resolvent) (run : Supply) → Visit P d p run ≡ walk P (Visit P) p.goals p.variables d run
 unfolding Visit visit_in Agree Same
 Visit-walk P d p run = go (left run) refl
   where

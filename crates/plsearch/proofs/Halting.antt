@@ -10,7 +10,7 @@ use Rattle.plevent.specs.Alive.{Stamped}
 use Rattle.plevent.specs.Search.{Item, View, Ask, Answer, Got, Wants, Finishes, Search}
 use Rattle.pltx.specs.Own.{any_open, ending, erased_in, made, target_at}
 use Rattle.plprogram.specs.Program.{Program}
-use Rattle.plsearch.specs.Types.{Result, Stop, Fail, CutTo, Throw, Halted, Spent, Awaits, Stopped, Unfit, Commit, Never, Until, Collect, Transact, Then, GoesOn, Ends, Question, Look, Begin, Await, Element, Goal, Marker, Raise, Asking, Place, Case, Choice, Mark, Handle, Catch, Gather, Undo, Return, Keep, Again, Anew, Local, Move, Give, Go, Meeting, Asks, End, Pass, Run}
+use Rattle.plsearch.specs.Types.{Result, Stop, Fail, CutTo, Throw, Halted, Spent, Awaits, Stopped, Unfit, Commit, Never, Until, Collect, Transact, Then, GoesOn, Ends, Question, Look, Begin, Await, Element, Goal, Marker, Raise, Asking, Resolvent, Case, Choice, Mark, Handle, Catch, Gather, Undo, Return, Keep, Again, Anew, Local, Move, Give, Go, Meeting, Asks, End, Pass, Supply}
 use Rattle.plsearch.specs.Rows.{asked, erasing, published, select, meet}
 use Rattle.plsearch.specs.Replies.{answered, founded}
 use Rattle.plsearch.specs.Handlers.{resume}
@@ -39,12 +39,12 @@ proper_append : (cs cases : List Case) → AreProperCases cs → AreProperCases 
 proper_append [] cases p q = q
 proper_append (c ∷ cs) cases p q = (p.0, proper_append cs cases p.1 q)
 
-move_fits : (cases : List Case) (run : Run) (m : Move) → AreProperCases cases → AreCommon run.answers → MoveFits m → Fits (move cases run m)
+move_fits : (cases : List Case) (run : Supply) (m : Move) → AreProperCases cases → AreCommon run.answers → MoveFits m → Fits (move cases run m)
 move_fits cases run (Give r w) proper answers fits = record { mode = fits; cases = proper; answers = answers }
 move_fits cases run (Go cs p w) proper answers fits = record { mode = fits.1; cases = proper_append cs cases fits.0 proper; answers = answers }
 
 -- what asks passes all open cases, and so does the end of the run
-outs_asking : (P : Program) (d : ℕ) (cs : List Case) (q : Item) (run : Run) → outs (Visit P) d cs (Awaits q, run) ≡ (Awaits q, run)
+outs_asking : (P : Program) (d : ℕ) (cs : List Case) (q : Item) (run : Supply) → outs (Visit P) d cs (Awaits q, run) ≡ (Awaits q, run)
 unfolding outs out choice resume
 outs_asking P d [] q run = refl
 outs_asking P d (Choice [] ∷ cs) q run = outs_asking P d cs q run
@@ -54,7 +54,7 @@ outs_asking P d (Handle (Catch c r) p ∷ cs) q run = outs_asking P d cs q run
 outs_asking P d (Handle (Gather l) p ∷ cs) q run = outs_asking P d cs q run
 outs_asking P d (Handle Undo p ∷ cs) q run = outs_asking P d cs q run
 
-outs_halted : (P : Program) (d : ℕ) (cs : List Case) (i : ℕ) (run : Run) → outs (Visit P) d cs (Halted i, run) ≡ (Halted i, run)
+outs_halted : (P : Program) (d : ℕ) (cs : List Case) (i : ℕ) (run : Supply) → outs (Visit P) d cs (Halted i, run) ≡ (Halted i, run)
 unfolding outs out choice resume
 outs_halted P d [] i run = refl
 outs_halted P d (Choice [] ∷ cs) i run = outs_halted P d cs i run
@@ -64,7 +64,7 @@ outs_halted P d (Handle (Catch c r) p ∷ cs) i run = outs_halted P d cs i run
 outs_halted P d (Handle (Gather l) p ∷ cs) i run = outs_halted P d cs i run
 outs_halted P d (Handle Undo p ∷ cs) i run = outs_halted P d cs i run
 
-at_no_back : (p : Place) (r : Result) → At p ≡ Back r → ⊥
+at_no_back : (p : Resolvent) (r : Result) → At p ≡ Back r → ⊥
 at_no_back p r is = cc
 
 some_case : (c : Case) (cs : List Case) → c ∷ cs ≡ [] → ⊥
@@ -122,28 +122,28 @@ same_request q i is = cc
 
 module _ (P : Program) where
   -- with Done behind the answers
-  abbrev done : Run → Run
+  abbrev done : Supply → Supply
   done run = record run { answers = run.answers ++ Got Reply.Done ∷ [] }
 
   abbrev with_done : Machine → Machine
   with_done m = record { mode = m.mode; cases = m.cases; run = done m.run }
 
   -- a turn does not see a further answer, unless it asks for one; and where it asks to end the run, that has ended then
-  data Turned (cases : List Case) (run : Run) (new more : Machine) : Type 0 where
+  data Turned (cases : List Case) (run : Supply) (new more : Machine) : Type 0 where
     Goes : more ≡ with_done new → Fits new → Turned cases run new more
     Waits : (q : Item) → new ≡ record { mode = Back (Awaits q); cases = cases; run = run } →
         ((i : ℕ) → q ≡ Ask (Request.HaltRun i) → more ≡ record { mode = Back (Halted i); cases = cases; run = record run { answers = [] } }) → Turned cases run new more
 
-  move_done : (cases : List Case) (run : Run) (m : Move) → move cases (done run) m ≡ with_done (move cases run m)
+  move_done : (cases : List Case) (run : Supply) (m : Move) → move cases (done run) m ≡ with_done (move cases run m)
   move_done cases run (Give r w) = refl
   move_done cases run (Go cs p w) = refl
 
-  step_turned : (cases : List Case) (row : Local → Move) (run : Run) (n : ℕ) → AreProperCases cases → AreCommon run.answers → MoveFits (row run.local) → Turned cases run (step cases row run n) (step cases row (done run) n)
+  step_turned : (cases : List Case) (row : Local → Move) (run : Supply) (n : ℕ) → AreProperCases cases → AreCommon run.answers → MoveFits (row run.local) → Turned cases run (step cases row run n) (step cases row (done run) n)
   step_turned cases row run zero proper common fits = Goes refl (record { mode = tt; cases = proper; answers = common })
   step_turned cases row run (suc n) proper common fits =
       Goes (move_done cases (record run { steps = n }) (row run.local)) (move_fits cases (record run { steps = n }) (row run.local) proper common fits)
 
-  ask_turned : (cases : List Case) (e : Element) (es : List Element) (n : ℕ) (q : Item) (run : Run) (xs : List Answer) → AreProperCases cases → AreCommon xs →
+  ask_turned : (cases : List Case) (e : Element) (es : List Element) (n : ℕ) (q : Item) (run : Supply) (xs : List Answer) → AreProperCases cases → AreCommon xs →
       ((a : Answer) → IsCommon a → MoveFits (answered e a (deeper cases 0) es n run.local)) →
       ((i : ℕ) → q ≡ Ask (Request.HaltRun i) → answered e (Got Reply.Done) (deeper cases 0) es n run.local ≡ Give (Halted i) run.local) →
       Turned cases run (ask cases e es n q run xs) (ask cases e es n q (done run) (xs ++ Got Reply.Done ∷ []))
@@ -152,7 +152,7 @@ module _ (P : Program) where
       (λ i is. ap (λ us. move cases (record run { answers = []; below = us }) (answered e (Got Reply.Done) (deeper cases 0) es n run.local)) (founded_got e Reply.Done run.below)
       ∙ ap (move cases (record run { answers = [] })) (halts i is))
   ask_turned cases e es n q run (a ∷ xs) proper common fits halts =
-      let after : Run = record run { answers = xs; below = founded e a run.below } in
+      let after : Supply = record run { answers = xs; below = founded e a run.below } in
       Goes (move_done cases after (answered e a (deeper cases 0) es n run.local)) (move_fits cases after (answered e a (deeper cases 0) es n run.local) proper common.1 (fits a common.0))
 
   -- Done to the request to end the run
@@ -169,14 +169,14 @@ module _ (P : Program) where
       ap (λ q. answered (Asking (Await q next)) (Got Reply.Done) d es n w) same ∙ halted_by next i d es n w (subst (λ q. IsProper (Asking (Await q next))) same proper)
   halting_item (Question.Erase x) i d es n w proper is = absurd (no_erasure x i is)
 
-  asking_turned : (cases : List Case) (q : Question) (es : List Element) (n : ℕ) (run : Run) → IsProper (Asking q) → AreProper es → AreProperCases cases → AreCommon run.answers →
+  asking_turned : (cases : List Case) (q : Question) (es : List Element) (n : ℕ) (run : Supply) → IsProper (Asking q) → AreProper es → AreProperCases cases → AreCommon run.answers →
       Turned cases run (ask cases (Asking q) es n (asked q) run run.answers) (ask cases (Asking q) es n (asked q) (done run) (run.answers ++ Got Reply.Done ∷ []))
   asking_turned cases q es n run may proper fine common =
       ask_turned cases (Asking q) es n (asked q) run run.answers fine common
       (λ a is. answered-fits (Asking q) a (deeper cases 0) es n run.local may is proper) (λ i is. halting_item q i (deeper cases 0) es n run.local may is)
 
   -- a clause is erased by a request, or of what is open
-  erasing_turned : (cases : List Case) (x : ClauseName) (es : List Element) (n : ℕ) (run : Run) → AreProper es → AreProperCases cases → AreCommon run.answers →
+  erasing_turned : (cases : List Case) (x : ClauseName) (es : List Element) (n : ℕ) (run : Supply) → AreProper es → AreProperCases cases → AreCommon run.answers →
       Turned cases run (meets P cases (Asking (Question.Erase x)) es n run (erasing x run.local)) (meets P cases (Asking (Question.Erase x)) es n (done run) (erasing x run.local))
   erasing_turned cases x es n run proper fine common = go (not (any_open run.local.own)) (erased_in (target_at run.local.own.base x) run.local.own.updates)
     where
@@ -188,7 +188,7 @@ module _ (P : Program) where
       go false true = Goes refl (record { mode = tt; cases = fine; answers = common })
       go false false = Goes refl (record { mode = proper; cases = fine; answers = common })
 
-  visit_turned : (cases : List Case) (es : List Element) (n : ℕ) (run : Run) → AreProper es → AreProperCases cases → AreCommon run.answers → Turned cases run (visits P cases es n run) (visits P cases es n (done run))
+  visit_turned : (cases : List Case) (es : List Element) (n : ℕ) (run : Supply) → AreProper es → AreProperCases cases → AreCommon run.answers → Turned cases run (visits P cases es n run) (visits P cases es n (done run))
   unfolding meet
   visit_turned cases [] n run r proper common = Goes refl (record { mode = tt; cases = proper; answers = common })
   visit_turned cases (Goal k t ∷ es) n run r proper common =
@@ -203,19 +203,19 @@ module _ (P : Program) where
   visit_turned cases (Asking (Question.Erase x) ∷ es) n run r proper common = erasing_turned cases x es n run r.1 proper common
   visit_turned cases (Asking q ∷ es) n run r proper common = asking_turned cases q es n run r.0 r.1 proper common
 
-  choose_turned : (cases : List Case) (run : Run) (ps : List Place) (r : Result) → AllProper ps → IsOther r → AreProperCases cases → AreCommon run.answers →
+  choose_turned : (cases : List Case) (run : Supply) (ps : List Resolvent) (r : Result) → AllProper ps → IsOther r → AreProperCases cases → AreCommon run.answers →
       Turned (Choice ps ∷ cases) run (machines.choose cases run ps r) (machines.choose cases (done run) ps r)
   choose_turned cases run (p ∷ ps) Fail all other proper common = Goes refl (record { mode = all.0; cases = (all.1, proper); answers = common })
   choose_turned cases run [] r all other proper common = Goes refl (record { mode = cut-other (deeper cases 0) r other; cases = proper; answers = common })
   choose_turned cases run (p ∷ ps) r all other proper common = Goes refl (record { mode = cut-other (deeper cases 0) r other; cases = proper; answers = common })
 
-  return_turned : (cases all : List Case) (run : Run) (b : Return) → ReturnFits b → AreProperCases cases → AreCommon run.answers →
+  return_turned : (cases all : List Case) (run : Supply) (b : Return) → ReturnFits b → AreProperCases cases → AreCommon run.answers →
       Turned all run (machines.return cases run b) (machines.return cases (done run) b)
   return_turned cases all run (Keep x w) fits proper common = Goes refl (record { mode = fits; cases = proper; answers = common })
   return_turned cases all run (Again p w) fits proper common = Goes refl (record { mode = fits; cases = proper; answers = common })
   return_turned cases all run (Anew p w) fits proper common = Goes refl (record { mode = fits; cases = (tt, proper); answers = common })
 
-  back_turned : (cases : List Case) (r : Result) (run : Run) → IsOther r → AreProperCases cases → AreCommon run.answers → Turned cases run (backs r run cases) (backs r (done run) cases)
+  back_turned : (cases : List Case) (r : Result) (run : Supply) → IsOther r → AreProperCases cases → AreCommon run.answers → Turned cases run (backs r run cases) (backs r (done run) cases)
   back_turned [] r run other proper common = Goes refl (record { mode = other; cases = proper; answers = common })
   back_turned (Choice ps ∷ cases) r run other proper common = choose_turned cases run ps r proper.0 other proper.1 common
   back_turned (Mark l ∷ cases) r run other proper common = Goes refl (record { mode = mark-other l r other; cases = proper.1; answers = common })
@@ -283,7 +283,7 @@ module _ (P : Program) where
   comes : (m : Machine) → Claim m
   comes = by_turns P Claim comes_over comes_ahead
 
-  visit_comes : (p : Place) (run : Run) → AreProper p.goals → AreCommon run.answers → Comes (record { mode = At p; cases = Choice [] ∷ []; run = run })
+  visit_comes : (p : Resolvent) (run : Supply) → AreProper p.goals → AreCommon run.answers → Comes (record { mode = At p; cases = Choice [] ∷ []; run = run })
   unfolding Claim
   visit_comes p run proper common = comes (record { mode = At p; cases = Choice [] ∷ []; run = run }) (record { mode = proper; cases = (tt, tt); answers = common })
 

@@ -31,7 +31,7 @@ use Rattle.plbuiltin.specs.Errors.{type_error}
 use Rattle.plbuiltin.specs.Lists.{may_be_list}
 use Rattle.plbuiltin.specs.Solution.{Solution, Solved, Gives, Raises as Refuses}
 use Rattle.plbuiltin.specs.Solutions.{solutions}
-use Rattle.plsearch.specs.Types.{Result, Fail, CutTo, Throw, Halted, Awaits, Commit, Never, Until, Collect, Transact, Then, GoesOn, Ends, Lookup, ToCall, ToRetrieve, ToRetract, ToRetractAll, Look, Begin, Await, Erase, Element, Goal, Marker, Raise, Asking, Place, Case, Choice, Mark, Handle, Handler, Catch, Gather, Undo, Return, Keep, Again, Anew, Local, Move, Give, Go}
+use Rattle.plsearch.specs.Types.{Result, Fail, CutTo, Throw, Halted, Awaits, Commit, Never, Until, Collect, Transact, Then, GoesOn, Ends, Lookup, ToCall, ToRetrieve, ToRetract, ToRetractAll, Look, Begin, Await, Erase, Element, Goal, Marker, Raise, Asking, Resolvent, Case, Choice, Mark, Handle, Handler, Catch, Gather, Undo, Return, Keep, Again, Anew, Local, Move, Give, Go}
 use Rattle.plsearch.specs.Lists.{bind_element, bind_goals}
 use Rattle.plsearch.specs.Forms.{Form, True, False, Both, Either, IfThenElse, Not, Once, Catching, FindAll, Within, Throwing, CallWith, Cut, Halting, Adding, Retrieving, Retracting, RetractingAll, Declaring, BuiltIn, Call, NoGoal, form}
 use Rattle.plsearch.specs.Running.{Runnable, Runs, Raises, runnable, called}
@@ -56,7 +56,7 @@ abbrev pub AreProper : List Element → Type 0
 AreProper [] = Unit {0}
 AreProper (e ∷ es) = IsProper e × AreProper es
 
-abbrev pub AllProper : List Place → Type 0
+abbrev pub AllProper : List Resolvent → Type 0
 AllProper [] = Unit {0}
 AllProper (p ∷ ps) = AreProper p.goals × AllProper ps
 
@@ -97,7 +97,7 @@ before true d t es p = p
 before false d t es p = (tt, p)
 
 -- the table's rows
-resolved_first : (d n : ℕ) (t : Tree) (rest : List Element) → AreProper rest → (c : Clause) (ps : List Place) → AllProper ps → AllProper (cons_option (resolve d n t rest c) ps)
+resolved_first : (d n : ℕ) (t : Tree) (rest : List Element) → AreProper rest → (c : Clause) (ps : List Resolvent) → AllProper ps → AllProper (cons_option (resolve d n t rest c) ps)
 resolved_first d n t rest proper c ps all = go (unify t (shift n c.head))
   where
     go : (o : Option (ℕ → Tree)) → AllProper (cons_option (option_map (λ σ. record { goals = before_rest (is_true c.body) d (bind σ (shift n c.body)) (bind_goals σ rest); variables = n + c.variables }) o) ps)
@@ -122,7 +122,7 @@ solutions_fit rest n proper (s ∷ ss) = go (unify s.left s.right) (solutions_fi
     go None all = all
     go (Some σ) all = (bound σ rest proper, all)
 
-choose_fits : (ps : List Place) (w : Local) → AllProper ps → MoveFits (choose ps w)
+choose_fits : (ps : List Resolvent) (w : Local) → AllProper ps → MoveFits (choose ps w)
 choose_fits [] w all = tt
 choose_fits (p ∷ ps) w all = ((all.1, tt), all.0)
 
@@ -317,11 +317,11 @@ recovers_fits : (x : Runnable) (d : ℕ) (es : List Element) (n : ℕ) (w : Loca
 recovers_fits (Runs g) d es n w proper = (tt, proper)
 recovers_fits (Raises e) d es n w proper = tt
 
-met_fits : (o : Option (ℕ → Tree)) (r b : Tree) (ls : List ℕ) (p : Place) (d : ℕ) (w : Local) → AreProper p.goals → ReturnFits (met_by o r b ls p d w)
+met_fits : (o : Option (ℕ → Tree)) (r b : Tree) (ls : List ℕ) (p : Resolvent) (d : ℕ) (w : Local) → AreProper p.goals → ReturnFits (met_by o r b ls p d w)
 met_fits None r b ls p d w proper = tt
 met_fits (Some σ) r b ls p d w proper = recovers_fits (runnable (bind σ r)) d (bind_goals σ p.goals) _ w (bound σ p.goals proper)
 
-pub resume-fits : (h : Handler) (p : Place) (d : ℕ) (r : Result) (w : Local) → AreProper p.goals → IsOther r → ReturnFits (resume h p d r w)
+pub resume-fits : (h : Handler) (p : Resolvent) (d : ℕ) (r : Result) (w : Local) → AreProper p.goals → IsOther r → ReturnFits (resume h p d r w)
 unfolding resume
 resume-fits (Catch c r) p d (Throw b ls) w proper other = go (has d ls)
   where

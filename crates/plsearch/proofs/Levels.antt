@@ -32,7 +32,7 @@ use Rattle.plbuiltin.specs.Lists.{may_be_list}
 use Rattle.plbuiltin.specs.Solution.{Solution, Solved, Gives, Raises as Refuses}
 use Rattle.plbuiltin.specs.Solutions.{solutions}
 use Rattle.plsearch.specs.Errors.{error_term}
-use Rattle.plsearch.specs.Types.{Result, Stop, Fail, CutTo, Throw, Halted, Spent, Awaits, Stopped, Unfit, Kind, Commit, Never, Until, Collect, Transact, Then, GoesOn, Ends, Lookup, ToCall, ToRetrieve, ToRetract, ToRetractAll, Question, Look, Begin, Await, Erase, Element, Goal, Marker, Raise, Asking, Place, Case, Choice, Mark, Handle, Local, Move, Give, Go}
+use Rattle.plsearch.specs.Types.{Result, Stop, Fail, CutTo, Throw, Halted, Spent, Awaits, Stopped, Unfit, Kind, Commit, Never, Until, Collect, Transact, Then, GoesOn, Ends, Lookup, ToCall, ToRetrieve, ToRetract, ToRetractAll, Question, Look, Begin, Await, Erase, Element, Goal, Marker, Raise, Asking, Resolvent, Case, Choice, Mark, Handle, Local, Move, Give, Go}
 use Rattle.plsearch.specs.Lists.{bind_kind, bind_element, bind_goals, levels}
 use Rattle.plsearch.specs.Forms.{Form, True, False, Both, Either, IfThenElse, Not, Once, Catching, FindAll, Within, Throwing, CallWith, Cut, Halting, Adding, Retrieving, Retracting, RetractingAll, Declaring, BuiltIn, Call, NoGoal, form}
 use Rattle.plsearch.specs.Running.{Runnable, Runs, Raises, runnable, called}
@@ -153,7 +153,7 @@ levels-in C N (Raise b ∷ es) h = levels-in C N es h.1
 levels-in C N (Asking q ∷ es) h = levels-in C N es h.1
 
 -- cases that are open at the depth d, of which the results cut to levels of C alone: what they hold, and what may come from inside
-unfoldable pub PlacesAllow : Levels → Levels → List Place → Type 0
+unfoldable pub PlacesAllow : Levels → Levels → List Resolvent → Type 0
 PlacesAllow C N [] = Unit {0}
 PlacesAllow C N (p ∷ ps) = AllAllow C N p.goals × PlacesAllow C N ps
 
@@ -222,11 +222,11 @@ module _ (C N : Levels) (d : ℕ) (holds : Holds N d) where
   raises e p rest w all = throws (copied 0 (error_term e p)) rest w all
 
   -- a list is visited in a choice at the level d
-  in-choice : (ps : List Place) (p : Place) (w : Local) → PlacesAllow More N ps → AllAllow More N p.goals → MoveAllows C N d (Go (Choice ps ∷ []) p w)
+  in-choice : (ps : List Resolvent) (p : Resolvent) (w : Local) → PlacesAllow More N ps → AllAllow More N p.goals → MoveAllows C N d (Go (Choice ps ∷ []) p w)
   unfolding MoveAllows CasesAllow CaseAllows
   in-choice ps p w others first = ((others, tt), first)
 
-  chooses : (ps : List Place) (w : Local) → PlacesAllow More N ps → MoveAllows C N d (choose ps w)
+  chooses : (ps : List Resolvent) (w : Local) → PlacesAllow More N ps → MoveAllows C N d (choose ps w)
   unfolding PlacesAllow
   chooses [] w all = give-up w
   chooses (p ∷ ps) w all = in-choice ps p w all.1 all.0
@@ -236,7 +236,7 @@ module _ (C N : Levels) (d : ℕ) (holds : Holds N d) where
   body-allowed true t es all = all
   body-allowed false t es all = (also-it C d, all)
 
-  place-allowed : (n : ℕ) (t : Tree) (rest : List Element) → AllAllow C N rest → (c : Clause) (ps : List Place) → PlacesAllow More N ps → PlacesAllow More N (cons_option (resolve d n t rest c) ps)
+  place-allowed : (n : ℕ) (t : Tree) (rest : List Element) → AllAllow C N rest → (c : Clause) (ps : List Resolvent) → PlacesAllow More N ps → PlacesAllow More N (cons_option (resolve d n t rest c) ps)
   unfolding PlacesAllow
   place-allowed n t rest all c ps others = go (unify t (shift n c.head))
     where

@@ -3,7 +3,7 @@ use Rattle.std.proofs.Common.{◌≡◌, ℕ, zero, suc, List, [], ◌∷◌, �
 use Rattle.plevent.specs.Search.{Answer}
 use Rattle.plevent.specs.declared.update.Update.{Update}
 use Rattle.plprogram.specs.Program.{Program}
-use Rattle.plsearch.specs.Types.{Result, Fail, Element, Place, Case, Choice, Mark, Handle, Local, Move, Give, Go, Meeting, Select, Asks, End, Pass, Marked, Return, Keep, Again, Anew, Run}
+use Rattle.plsearch.specs.Types.{Result, Fail, Element, Resolvent, Case, Choice, Mark, Handle, Local, Move, Give, Go, Meeting, Select, Asks, End, Pass, Marked, Return, Keep, Again, Anew, Supply}
 use Rattle.plsearch.specs.Rows.{select, meet}
 use Rattle.plsearch.specs.Moves.{publishing}
 use Rattle.plsearch.specs.Replies.{answered, founded}
@@ -21,27 +21,27 @@ unfolding outs
 outs-append V [] cases e = refl
 outs-append V (c ∷ cs) cases e = ap (λ d. outs V 0 (cs ++ cases) (out V d c e)) (deeper-append cs cases) ∙ outs-append V cs cases (out V (deeper cs (deeper cases 0)) c e)
 
-Rest-move : (P : Program) (cases : List Case) (run : Run) (m : Move) →
+Rest-move : (P : Program) (cases : List Case) (run : Supply) (m : Move) →
     outs (Visit P) 0 cases (moved (Visit P) (deeper cases 0) m run) ≡ Rest P (move cases run m)
 unfolding Rest moved
 Rest-move P cases run (Give r w) = refl
 Rest-move P cases run (Go cs p w) = rw (deeper-append, outs-append) refl
 
-Rest-choose : (P : Program) (cases : List Case) (run : Run) (ps : List Place) (r : Result) →
+Rest-choose : (P : Program) (cases : List Case) (run : Supply) (ps : List Resolvent) (r : Result) →
     outs (Visit P) 0 cases (choice (Visit P) (deeper cases 0) ps r run) ≡ Rest P (choose cases run ps r)
 unfolding Rest outs out choice
 Rest-choose P cases run (p ∷ ps) Fail = refl
 Rest-choose P cases run [] Fail = refl
 Rest-choose P cases run ps r = refl
 
-Rest-return : (P : Program) (cases : List Case) (run : Run) (b : Return) →
+Rest-return : (P : Program) (cases : List Case) (run : Supply) (b : Return) →
     outs (Visit P) 0 cases (returned (Visit P) (deeper cases 0) b run) ≡ Rest P (return cases run b)
 unfolding Rest outs out
 Rest-return P cases run (Keep r w) = refl
 Rest-return P cases run (Again p w) = refl
 Rest-return P cases run (Anew p w) = refl
 
-Rest-backs : (P : Program) (r : Result) (run : Run) (cases : List Case) →
+Rest-backs : (P : Program) (r : Result) (run : Supply) (cases : List Case) →
     outs (Visit P) 0 cases (r, run) ≡ Rest P (backs r run cases)
 unfolding Rest outs out
 Rest-backs P r run [] = refl
@@ -50,13 +50,13 @@ Rest-backs P r run (Mark l ∷ cases) = refl
 Rest-backs P r run (Handle h p ∷ cases) = Rest-return P cases run (resume h p (deeper cases 0) r run.local)
 
 -- what is published is the first of a list
-publishes-first : (P : Program) (es : List Element) (n : ℕ) (us : List Update) (d : ℕ) (run : Run) →
+publishes-first : (P : Program) (es : List Element) (n : ℕ) (us : List Update) (d : ℕ) (run : Supply) →
     publishes (Visit P) (walk P (Visit P) es n) es n us d run ≡ Visit P d (record { goals = publishing us es; variables = n }) run
 unfolding walk meet
 publishes-first P es n [] d run = sym (Visit-walk P d (record { goals = es; variables = n }) run)
 publishes-first P es n (u ∷ us) d run = sym (Visit-walk P d (record { goals = publishing (u ∷ us) es; variables = n }) run)
 
-Rest-meets : (P : Program) (cases : List Case) (e : Element) (es : List Element) (n : ℕ) (run : Run) (m : Meeting) →
+Rest-meets : (P : Program) (cases : List Case) (e : Element) (es : List Element) (n : ℕ) (run : Supply) (m : Meeting) →
     outs (Visit P) 0 cases (met P (Visit P) (walk P (Visit P) es n) e es n (deeper cases 0) run m) ≡ Rest P (meets P cases e es n run m)
 unfolding Rest outs
 Rest-meets P cases e es n run (Select k t) = step_keeps (select P run.below k t (deeper cases 0) es n) run.steps
@@ -74,7 +74,7 @@ Rest-meets P cases e es n run (End r w) = refl
 Rest-meets P cases e es n run (Pass w) = ap (outs (Visit P) 0 cases) (sym (Visit-walk P (deeper cases 0) (record { goals = es; variables = n }) (record run { local = w })))
 Rest-meets P cases e es n run (Marked l us w) = ap (λ e. outs (Visit P) 0 cases (out (Visit P) (deeper cases 0) (Mark l) e)) (publishes-first P es n us (suc (deeper cases 0)) (record run { local = w }))
 
-Rest-visits : (P : Program) (cases : List Case) (es : List Element) (n : ℕ) (run : Run) →
+Rest-visits : (P : Program) (cases : List Case) (es : List Element) (n : ℕ) (run : Supply) →
     outs (Visit P) 0 cases (walk P (Visit P) es n (deeper cases 0) run) ≡ Rest P (visits P cases es n run)
 unfolding Rest walk
 Rest-visits P cases [] n run = refl

@@ -13,7 +13,7 @@ use Rattle.plterm.specs.Tree.{Tree}
 use Rattle.plterm.specs.Variables.{variables, copied}
 use Rattle.plsubst.specs.Subst.{bind}
 use Rattle.plsubst.specs.Unify.{unify}
-use Rattle.plsearch.specs.Types.{Catch, Gather, Undo, Throw, Result, Fail, Kind, Commit, Never, Until, Collect, Transact, Question, Element, Goal, Marker, Raise, Asking, Place, Case, Choice, Mark, Handle, Handler, Local, Move, Give, Go, Asks, End, Pass, Return, Keep, Again, Anew, Run}
+use Rattle.plsearch.specs.Types.{Catch, Gather, Undo, Throw, Result, Fail, Kind, Commit, Never, Until, Collect, Transact, Question, Element, Goal, Marker, Raise, Asking, Resolvent, Case, Choice, Mark, Handle, Handler, Local, Move, Give, Go, Asks, End, Pass, Return, Keep, Again, Anew, Supply}
 use Rattle.plsearch.specs.Lists.{bind_kind, bind_element, bind_goals}
 use Rattle.plsearch.specs.Running.{Runnable, Runs, Raises, runnable}
 use Rattle.plbuiltin.specs.Solution.{Solution}
@@ -50,7 +50,7 @@ return_weight (Again p w) = place_weight p
 return_weight (Anew p w) = place_weight p + 1
 
 -- a handler weighs as much as what it may go on with
-resume-weight : (h : Handler) (p : Place) (d : ℕ) (r : Result) (w : Local) → return_weight (resume h p d r w) ≤ place_weight p + 3
+resume-weight : (h : Handler) (p : Resolvent) (d : ℕ) (r : Result) (w : Local) → return_weight (resume h p d r w) ≤ place_weight p + 3
 unfolding resume
 resume-weight (Catch c r) p d (Throw b ls) w = go (has d ls)
   where
@@ -80,14 +80,14 @@ resume-weight Undo p d (Throw b ls) w = omega arith
 resume-weight Undo p d x w = omega arith
 
 -- the machine at a goal list
-abbrev at_goals : Place → List Case → Run → Machine
+abbrev at_goals : Resolvent → List Case → Supply → Machine
 at_goals p cases run = record { mode = At p; cases = cases; run = run }
 
-move-run : (cases : List Case) (run : Run) (m : Move) → left (move cases run m).run ≡ left run
+move-run : (cases : List Case) (run : Supply) (m : Move) → left (move cases run m).run ≡ left run
 move-run cases run (Give r w) = refl
 move-run cases run (Go cs p w) = refl
 
-lighter-step : (cases : List Case) (row : Local → Move) (p : Place) (run : Run) → Lighter (at_goals p cases run) (step cases row run run.steps)
+lighter-step : (cases : List Case) (row : Local → Move) (p : Resolvent) (run : Supply) → Lighter (at_goals p cases run) (step cases row run run.steps)
 unfolding weight
 lighter-step cases row p run = go run.steps refl
   where
@@ -95,7 +95,7 @@ lighter-step cases row p run = go run.steps refl
     go zero is = inr (refl, omega arith)
     go (suc n) is = inl (omega (arith, is, move-run cases (record run { steps = n }) (row run.local)))
 
-lighter-ask : (cases : List Case) (e : Element) (es : List Element) (n : ℕ) (q : Item) (run : Run) →
+lighter-ask : (cases : List Case) (e : Element) (es : List Element) (n : ℕ) (q : Item) (run : Supply) →
     Lighter (at_goals (record { goals = e ∷ es; variables = n }) cases run) (ask cases e es n q run run.answers)
 unfolding weight
 lighter-ask cases e es n q run = go run.answers refl
@@ -109,7 +109,7 @@ publishing-weight : (us : List Update) (es : List Element) → goals_weight (pub
 publishing-weight [] es = omega arith
 publishing-weight (u ∷ us) es = omega arith
 
-lighter-erasing : (P : Program) (cases : List Case) (x : ClauseName) (es : List Element) (n : ℕ) (run : Run) →
+lighter-erasing : (P : Program) (cases : List Case) (x : ClauseName) (es : List Element) (n : ℕ) (run : Supply) →
     Lighter (at_goals (record { goals = Asking (Question.Erase x) ∷ es; variables = n }) cases run) (meets P cases (Asking (Question.Erase x)) es n run (erasing x run.local))
 unfolding weight
 lighter-erasing P cases x es n run = go (not (any_open run.local.own)) (erased_in (target_at run.local.own.base x) run.local.own.updates)
@@ -120,7 +120,7 @@ lighter-erasing P cases x es n run = go (not (any_open run.local.own)) (erased_i
     go false true = inr (refl, omega arith)
     go false false = inr (refl, omega arith)
 
-lighter-meets : (P : Program) (cases : List Case) (e : Element) (es : List Element) (n : ℕ) (run : Run) →
+lighter-meets : (P : Program) (cases : List Case) (e : Element) (es : List Element) (n : ℕ) (run : Supply) →
     Lighter (at_goals (record { goals = e ∷ es; variables = n }) cases run) (meets P cases e es n run (meet e es run.local))
 unfolding weight meet
 lighter-meets P cases (Goal k t) es n run = lighter-step cases (select P run.below k t (deeper cases 0) es n) (record { goals = Goal k t ∷ es; variables = n }) run
@@ -133,25 +133,25 @@ lighter-meets P cases (Raise b) es n run = inr (refl, omega arith)
 lighter-meets P cases (Asking (Question.Erase x)) es n run = lighter-erasing P cases x es n run
 lighter-meets P cases (Asking q) es n run = lighter-ask cases (Asking q) es n (asked q) run
 
-lighter-choose : (cases : List Case) (run : Run) (ps : List Place) (r : Result) → Lighter (record { mode = Back r; cases = Choice ps ∷ cases; run = run }) (choose cases run ps r)
+lighter-choose : (cases : List Case) (run : Supply) (ps : List Resolvent) (r : Result) → Lighter (record { mode = Back r; cases = Choice ps ∷ cases; run = run }) (choose cases run ps r)
 unfolding weight
 lighter-choose cases run (p ∷ ps) Fail = inr (refl, omega arith)
 lighter-choose cases run [] Fail = inr (refl, omega arith)
 lighter-choose cases run (p ∷ ps) r = inr (refl, omega arith)
 lighter-choose cases run [] r = inr (refl, omega arith)
 
-lighter-return : (cases : List Case) (run : Run) (r : Result) (h : Handler) (p : Place) (b : Return) → return_weight b ≤ place_weight p + 3 →
+lighter-return : (cases : List Case) (run : Supply) (r : Result) (h : Handler) (p : Resolvent) (b : Return) → return_weight b ≤ place_weight p + 3 →
     Lighter (record { mode = Back r; cases = Handle h p ∷ cases; run = run }) (return cases run b)
 unfolding weight
 lighter-return cases run r h q (Keep r' w) le = inr (refl, omega arith)
 lighter-return cases run r h q (Again p w) le = inr (refl, omega arith)
 lighter-return cases run r h q (Anew p w) le = inr (refl, omega arith)
 
-lighter-mark : (P : Program) (cases : List Case) (run : Run) (r : Result) (l : ℕ) → Lighter (record { mode = Back r; cases = Mark l ∷ cases; run = run }) (backs r run (Mark l ∷ cases))
+lighter-mark : (P : Program) (cases : List Case) (run : Supply) (r : Result) (l : ℕ) → Lighter (record { mode = Back r; cases = Mark l ∷ cases; run = run }) (backs r run (Mark l ∷ cases))
 unfolding weight
 lighter-mark P cases run r l = inr (refl, omega arith)
 
-lighter-visits : (P : Program) (cases : List Case) (es : List Element) (n : ℕ) (run : Run) →
+lighter-visits : (P : Program) (cases : List Case) (es : List Element) (n : ℕ) (run : Supply) →
     Lighter (at_goals (record { goals = es; variables = n }) cases run) (visits P cases es n run)
 unfolding weight
 lighter-visits P cases [] n run = inr (refl, omega arith)

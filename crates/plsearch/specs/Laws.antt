@@ -4,7 +4,7 @@ use Rattle.plterm.specs.Tree.{Tree}
 use Rattle.plevent.specs.Search.{Answer, Finishes}
 use Rattle.plevent.specs.declared.request.ThreadEnd.{ThreadEnd}
 use Rattle.plprogram.specs.Program.{Program}
-use Rattle.plsearch.specs.Types.{Result, Place, Case, Choice, Mark, Handle, Catch, Run}
+use Rattle.plsearch.specs.Types.{Result, Resolvent, Case, Choice, Mark, Handle, Catch, Supply}
 use Rattle.plsearch.specs.Engine.{walk, deeper, Visit}
 use Rattle.plsearch.specs.Machines.Machine.{Machine, At, Back, Rest, turn}
 use Rattle.plsearch.specs.Machines.Levels.{AreAtMost, emptied}
@@ -14,7 +14,7 @@ use Rattle.plsearch.specs.Halts.{HaltsNoSooner, HaltsWhenDone}
 
 -- a list is visited by one walk, and what comes behind a step or an answer by the search again
 abbrev pub VisitsByWalks : Type 0
-VisitsByWalks = (P : Program) (d : ℕ) (p : Place) (run : Run) → Visit P d p run ≡ walk P (Visit P) p.goals p.variables d run
+VisitsByWalks = (P : Program) (d : ℕ) (p : Resolvent) (run : Supply) → Visit P d p run ≡ walk P (Visit P) p.goals p.variables d run
 
 -- each turn of the machine keeps the rest of the search
 abbrev pub TurnsKeepRest : Type 0
@@ -32,13 +32,13 @@ EndsIgnoreAnswers = (P : Program) (limit n : ℕ) (answers further : List Answer
 -- Where a list is visited behind a cut to the level k, and names no level above it, the choice at that level and all cases that
 -- are open inside of it may be emptied: nothing of them is tried or caught any more.
 abbrev pub CutsEmpty : Type 0
-CutsEmpty = (P : Program) (k : ℕ) (cs below : List Case) (ps : List Place) (p : Place) (run : Run) → deeper below 0 ≡ k → AreAtMost k p.goals →
+CutsEmpty = (P : Program) (k : ℕ) (cs below : List Case) (ps : List Resolvent) (p : Resolvent) (run : Supply) → deeper below 0 ≡ k → AreAtMost k p.goals →
     Rest P (record { mode = At p; cases = Mark k ∷ (cs ++ Choice ps ∷ below); run = run }) ≡ Rest P (record { mode = At p; cases = emptied (Mark k ∷ cs) (Choice [] ∷ below); run = run })
 
 -- Where a list is visited in a catcher with nothing left inside of it, and names no level from that of the catcher on, the catcher is
 -- as good as a choice with nothing left: no ball that the list throws is for it.
 abbrev pub CatchersEmpty : Type 0
-CatchersEmpty = (P : Program) (k : ℕ) (c r : Tree) (q : Place) (cs below : List Case) (p : Place) (run : Run) → deeper below 0 ≡ suc k → AreAtMost k p.goals →
+CatchersEmpty = (P : Program) (k : ℕ) (c r : Tree) (q : Resolvent) (cs below : List Case) (p : Resolvent) (run : Supply) → deeper below 0 ≡ suc k → AreAtMost k p.goals →
     Rest P (record { mode = At p; cases = emptied cs (Handle (Catch c r) q ∷ below); run = run }) ≡ Rest P (record { mode = At p; cases = emptied cs (Choice [] ∷ below); run = run })
 
 -- The search ends the run where it has asked for that and is told that it is done, and in no other way.

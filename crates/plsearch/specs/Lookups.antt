@@ -14,7 +14,7 @@ use Rattle.plprogram.specs.declared.settings.Unknown.TheVariants as unknown
 use Rattle.plprogram.specs.declared.settings.Unknown.{Unknown}
 use Rattle.plsearch.specs.Errors.{pair, procedure_error}
 use Rattle.plsearch.specs.Moves.{call, choose, go_on, publish, raised, resolve}
-use Rattle.plsearch.specs.Types.{Asking, Element, Fail, Give, Local, Look, Lookup, Move, Place, Question, ToCall, ToRetract, ToRetractAll, ToRetrieve}
+use Rattle.plsearch.specs.Types.{Asking, Element, Fail, Give, Local, Look, Lookup, Move, Resolvent, Question, ToCall, ToRetract, ToRetractAll, ToRetrieve}
 
 -- a head and a body as one term
 abbrev pub clause_term : Tree → Tree → Tree
@@ -34,7 +34,7 @@ missing unknown.Error t rest w = raised (procedure_error (indicator t)) (indicat
 missing unknown.Fail t rest w = Give Fail w
 
 -- a clause that a head and a body, as one term, unify with is erased, and then the list goes on
-abbrev pub retract : ℕ → ℕ → Tree → List Element → Living → Option Place
+abbrev pub retract : ℕ → ℕ → Tree → List Element → Living → Option Resolvent
 retract d n t rest x = resolve d n t (Asking (Question.Erase x.name) ∷ rest) (as_fact x.clause)
 
 -- whether a head unifies with that of a clause

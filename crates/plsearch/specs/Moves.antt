@@ -14,7 +14,7 @@ use Rattle.pltx.specs.declared.level.Isolation.{Isolation}
 use Rattle.plsearch.specs.Errors.{error_term}
 use Rattle.plsearch.specs.Lists.{bind_goals, levels}
 use Rattle.plsearch.specs.Running.{Raises, Runnable, Runs, runnable}
-use Rattle.plsearch.specs.Types.{Asking, Await, Case, Choice, Element, Fail, Give, Go, Goal, GoesOn, Handle, Local, Marker, Move, Place, Raise, Throw, Transact, Undo}
+use Rattle.plsearch.specs.Types.{Asking, Await, Case, Choice, Element, Fail, Give, Go, Goal, GoesOn, Handle, Local, Marker, Move, Resolvent, Raise, Throw, Transact, Undo}
 
 abbrev pub is_true : Tree → Bool
 is_true (atom f) = bytes_eq f (codes "true")
@@ -26,14 +26,14 @@ before_rest true d b rest = rest
 before_rest false d b rest = Goal d b ∷ rest
 
 -- the goal t resolved against a clause, at the level d, where n variables are in use
-abbrev pub resolve : ℕ → ℕ → Tree → List Element → Clause → Option Place
+abbrev pub resolve : ℕ → ℕ → Tree → List Element → Clause → Option Resolvent
 resolve d n t rest c =
     option_map
     (λ σ. record { goals = before_rest (is_true c.body) d (bind σ (shift n c.body)) (bind_goals σ rest); variables = n + c.variables })
     (unify t (shift n c.head))
 
 -- each place in turn, at a level of its own
-abbrev pub choose : List Place → Local → Move
+abbrev pub choose : List Resolvent → Local → Move
 choose [] w = Give Fail w
 choose (p ∷ ps) w = Go (Choice ps ∷ []) p w
 

@@ -36,7 +36,7 @@ use Rattle.plsearch.specs.Lists.{bind_goals, levels}
 use Rattle.plsearch.specs.Lookups.{retrieve, seek}
 use Rattle.plsearch.specs.Moves.{call, choose, go_on, opened, publish, raised, run}
 use Rattle.plsearch.specs.Running.{called, runnable}
-use Rattle.plsearch.specs.Types.{Asking, Asks, Await, Begin, Case, Catch, Choice, Collect, Commit, CutTo, Element, End, Ends, Fail, Gather, Give, Go, Goal, Handle, Local, Look, Mark, Marked, Marker, Meeting, Move, Never, Pass, Place, Question, Raise, Select, Throw, ToCall, ToRetract, ToRetractAll, ToRetrieve, Transact, Until}
+use Rattle.plsearch.specs.Types.{Asking, Asks, Await, Begin, Case, Catch, Choice, Collect, Commit, CutTo, Element, End, Ends, Fail, Gather, Give, Go, Goal, Handle, Local, Look, Mark, Marked, Marker, Meeting, Move, Never, Pass, Resolvent, Question, Raise, Select, Throw, ToCall, ToRetract, ToRetractAll, ToRetrieve, Transact, Until}
 
 abbrev pub once_1 : Indicator
 once_1 = record { name = codes "once"; arity = 1 }
@@ -171,10 +171,10 @@ user below [] d t rest n w = seek below (ToCall t) d rest n w
 user below (c ∷ cs) d t rest n w = call d n t rest (c ∷ cs) w
 
 -- the unifier of a solution's sides is put into the list
-abbrev pub solved : List Element → ℕ → Solution → Option Place
+abbrev pub solved : List Element → ℕ → Solution → Option Resolvent
 solved rest n s = option_map (λ σ. record { goals = bind_goals σ rest; variables = n + s.new }) (unify s.left s.right)
 
-abbrev pub taken : Option Place → Local → Move
+abbrev pub taken : Option Resolvent → Local → Move
 taken None w = Give Fail w
 taken (Some p) w = Go [] p w
 

@@ -6,23 +6,23 @@ use Rattle.plevent.specs.Search.{Answer, Next, Wants, Finishes, Ceases, Ending, 
 use Rattle.plevent.specs.declared.request.ThreadEnd.TheVariants.{True, False, Exception, Budget, Halt}
 use Rattle.plprogram.specs.Program.{Program}
 use Rattle.pltx.specs.Own.{nothing}
-use Rattle.plsearch.specs.Types.{Result, Stop, Fail, CutTo, Throw, Halted, Spent, Awaits, Stopped, Unfit, Goal, Place, Choice, Run}
+use Rattle.plsearch.specs.Types.{Result, Stop, Fail, CutTo, Throw, Halted, Spent, Awaits, Stopped, Unfit, Goal, Resolvent, Choice, Supply}
 use Rattle.plsearch.specs.Engine.{Ended, out, Visit}
 
 abbrev pub once : Tree → Tree
 once g = compound (codes "once") (more g none)
 
 -- a goal, once, before a place, its variables numbered behind those of the place
-abbrev pub started : Tree → Place → Place
+abbrev pub started : Tree → Resolvent → Resolvent
 started g p = record { goals = Goal 0 (once (copied p.variables g)) ∷ p.goals; variables = p.variables + length (variables g) }
 
 -- the goals in order, each once, their variables apart
-unfoldable pub start_from : List Tree → Place
+unfoldable pub start_from : List Tree → Resolvent
 start_from [] = record { goals = []; variables = 0 }
 start_from (g ∷ gs) = started g (start_from gs)
 
 -- where main starts
-unfoldable pub start_of : Program → Place
+unfoldable pub start_of : Program → Resolvent
 unfolding start_from
 start_of P = start_from P.goals
 
@@ -44,7 +44,7 @@ abbrev pub ending_of : ℕ → Ended → Ending
 ending_of steps e = record { next = next_of e.0; used = steps - e.1.steps; out = e.1.local.out }
 
 -- so many steps and these answers are left, nothing was written, nothing is kept, nothing is open, and the operators and flags are the program's
-abbrev pub from_start : Program → ℕ → List Answer → Run
+abbrev pub from_start : Program → ℕ → List Answer → Supply
 from_start P steps answers = record { steps = steps; answers = answers; below = []; local = record { out = []; settings = P.settings; kept = []; own = nothing } }
 
 -- main's search, which takes no more steps than the limit: its goals run in a choice with nothing left

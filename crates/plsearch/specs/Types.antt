@@ -64,7 +64,7 @@ pub data Element : Type 0 where
   Asking : Question → Element
 
 -- what is left to do: a goal list, its terms with all that stands for their variables put in, and how many variables are in use
-pub record Place : Type 0 where
+pub record Resolvent : Type 0 where
   pub goals : List Element
   pub variables : ℕ
 
@@ -78,9 +78,9 @@ pub data Handler : Type 0 where
 -- an open case, outside of the list that is visited now: the places still to try, a mark, behind which Fail is a cut to its level, or a
 -- handler, with the place behind the goal that it is for. The level of a case is the number of cases that are open outside of it
 pub data Case : Type 0 where
-  Choice : List Place → Case
+  Choice : List Resolvent → Case
   Mark : ℕ → Case
-  Handle : Handler → Place → Case
+  Handle : Handler → Resolvent → Case
 
 -- a copy of a term, its variables numbered from 0, and the level of the handler that it is kept for
 pub record Kept : Type 0 where
@@ -98,7 +98,7 @@ pub record Local : Type 0 where
 -- what a row of the table says: the result, or cases to open, the innermost first, and the list to visit in them
 pub data Move : Type 0 where
   Give : Result → Local → Move
-  Go : List Case → Place → Local → Move
+  Go : List Case → Resolvent → Local → Move
 
 -- what an element at the head of a list is: a goal, which takes a step; an item, which takes an answer;
 -- an end; or nothing but a mark on the rest, behind which updates are published
@@ -112,11 +112,11 @@ pub data Meeting : Type 0 where
 -- what a handler makes of a result: another, or a list to visit in its place, at a cut level of its own or not
 pub data Return : Type 0 where
   Keep : Result → Local → Return
-  Again : Place → Local → Return
-  Anew : Place → Local → Return
+  Again : Resolvent → Local → Return
+  Anew : Resolvent → Local → Return
 
 -- the steps and the answers that are left, the updates of the batches on which what is open began, and the rest
-pub record Run : Type 0 where
+pub record Supply : Type 0 where
   pub steps : ℕ
   pub answers : List Answer
   pub below : List Stamped

@@ -17,7 +17,7 @@ use Rattle.plviews.specs.declared.lookup.Step.{Step}
 use Rattle.plviews.specs.declared.lookup.Step.TheVariants as steps
 use Rattle.plviews.specs.declared.view.View.{View}
 use Rattle.plviews.specs.Views.{whole, Sight}
-use Rattle.plviews.specs.Lookups.{likely, rest_at, Begins, Says}
+use Rattle.plviews.specs.Lookups.{likely, rest_at, Begins, IsStepOf}
 use Rattle.plsearch.specs.Types.{Element}
 use Rattle.plstack.specs.declared.frame.Ahead.{Ahead}
 use Rattle.plstack.specs.declared.frame.Use.{Use}
@@ -65,13 +65,13 @@ module _ (u : Use) (t : Tree) (d n : ℕ) (es : List Element) (s : Sight) (p : I
       ∙ ap (cons_option (tried d n t es (candidate_of u (lives_as x b.clause)))) (sym (places-likely u t d n es ys))
       ∙ sym (ap (λ zs. places u t d n es (zs ++ ys)) (alive-is s x b.clause b.alive))
 
-  pub step-places : (xs : List Living) (step : Step) → Says s p (first_key (head_in u t)) (likely (first_key (head_in u t)) xs) step → places u t d n es xs ≡ places u t d n es (step_left s p step)
+  pub step-places : (xs : List Living) (step : Step) → IsStepOf s p (first_key (head_in u t)) (likely (first_key (head_in u t)) xs) step → places u t d n es xs ≡ places u t d n es (step_left s p step)
   step-places xs (steps.Next x r) says = begins-places x xs (rest_at s p r) says
   step-places xs steps.Nothing says = places-likely u t d n es xs ∙ ap (places u t d n es) says
   step-places xs (steps.Asks c) says = places-as u t d n es xs (rest_at s p (reaches.Base c)) says
 
   -- behind a clause
-  pub hand-places : (x : ClauseName) (xs : List Living) (step : Step) → Says s p (first_key (head_in u t)) (likely (first_key (head_in u t)) xs) step →
+  pub hand-places : (x : ClauseName) (xs : List Living) (step : Step) → IsStepOf s p (first_key (head_in u t)) (likely (first_key (head_in u t)) xs) step →
       places u t d n es (alive_as s x ++ xs) ≡ places u t d n es (alive_as s x ++ step_left s p step)
   hand-places x xs step says =
       places-append u t d n es (alive_as s x) xs
@@ -86,15 +86,15 @@ module _ (db : Database) (u : Use) (t : Tree) (g : View) where
   s = sight_at db g
 
   -- at a spot
-  pub behind-left : (spot : Spot) (r : Reach) (step : Step) → LooksBehind spot g r → Says s p (first_key (head_in u t)) (likely (first_key (head_in u t)) (rest_at s p r)) step → SameLeft db u t spot (spot_behind spot step)
+  pub behind-left : (spot : Spot) (r : Reach) (step : Step) → LooksBehind spot g r → IsStepOf s p (first_key (head_in u t)) (likely (first_key (head_in u t)) (rest_at s p r)) step → SameLeft db u t spot (spot_behind spot step)
   behind-left spot r step looks says = looks-elim (λ z. SameLeft db u t z (spot_behind z step)) g r spot looks (seeks step says) (λ x. at-clause x step says)
     where
-      seeks : (step : Step) → Says s p (first_key (head_in u t)) (likely (first_key (head_in u t)) (rest_at s p r)) step → SameLeft db u t (spots.Seek g r) (spot_behind (spots.Seek g r) step)
+      seeks : (step : Step) → IsStepOf s p (first_key (head_in u t)) (likely (first_key (head_in u t)) (rest_at s p r)) step → SameLeft db u t (spots.Seek g r) (spot_behind (spots.Seek g r) step)
       seeks (steps.Next x w) says d n es = step-places u t d n es s p (rest_at s p r) (steps.Next x w) says
       seeks steps.Nothing says d n es = step-places u t d n es s p (rest_at s p r) steps.Nothing says
       seeks (steps.Asks c) says d n es = step-places u t d n es s p (rest_at s p r) (steps.Asks c) says
 
-      at-clause : (x : ClauseName) (step : Step) → Says s p (first_key (head_in u t)) (likely (first_key (head_in u t)) (rest_at s p r)) step → SameLeft db u t (spots.At g x r) (spot_behind (spots.At g x r) step)
+      at-clause : (x : ClauseName) (step : Step) → IsStepOf s p (first_key (head_in u t)) (likely (first_key (head_in u t)) (rest_at s p r)) step → SameLeft db u t (spots.At g x r) (spot_behind (spots.At g x r) step)
       at-clause x (steps.Next y w) says d n es = hand-places u t d n es s p x (rest_at s p r) (steps.Next y w) says
       at-clause x steps.Nothing says d n es = hand-places u t d n es s p x (rest_at s p r) steps.Nothing says
       at-clause x (steps.Asks c) says d n es = hand-places u t d n es s p x (rest_at s p r) (steps.Asks c) says

@@ -31,7 +31,7 @@ use Rattle.plviews.specs.declared.lookup.Step.{Step}
 use Rattle.plviews.specs.declared.lookup.Step.TheVariants as steps
 use Rattle.plviews.specs.declared.view.View.{View}
 use Rattle.plviews.specs.Views.{own_part, sight, sight_in, whole, AreOrdered, Sight}
-use Rattle.plviews.specs.Lookups.{base_rest, likely, rest_at, LeadsFound, Says}
+use Rattle.plviews.specs.Lookups.{base_rest, likely, rest_at, LeadsFound, IsStepOf}
 use Rattle.plviews.proofs.Naming.{exists-whole}
 use Rattle.plviews.proofs.Seen.{from-start}
 use Rattle.plstack.specs.declared.frame.Use.{Use}
@@ -156,7 +156,7 @@ module _ (P : Program) (v : Views) (ordered : AreOrdered v) (s : Reached) (x : S
 
   -- or the journal was asked for it
   module _ (front : NoneInFront own g h) (o : Option ClauseName) (e : o ≡ next_like_of (first_key h) Start (living (v g.place) (indicator h))) (step : Step) (tells : TellsFound own h g o step) (leads : LeadsFound g o step) where
-    abbrev says : Says seen (indicator h) (first_key h) (likely (first_key h) (rest_at seen (indicator h) (reaches.Base Start))) step
+    abbrev says : IsStepOf seen (indicator h) (first_key h) (likely (first_key h) (rest_at seen (indicator h) (reaches.Base Start))) step
     says = tells (v g.place) Start (ordered.ordered g.place) (ordered.under g.place) e
 
     front-same : likely (first_key h) (rest_at seen (indicator h) (reaches.Front OwnStart)) ≡ likely (first_key h) (rest_at seen (indicator h) (reaches.Base Start))
@@ -170,7 +170,7 @@ module _ (P : Program) (v : Views) (ordered : AreOrdered v) (s : Reached) (x : S
     there-behind : (spot : Spot) → spot_behind (spots.Seek g (reaches.Base Start)) step ≡ Some spot → x.uses ≡ uses.Call → exists (whole seen) (indicator t) ≡ true
     there-behind spot is call = go step says o leads e is
       where
-        go : (step : Step) → Says seen (indicator h) (first_key h) (likely (first_key h) (rest_at seen (indicator h) (reaches.Base Start))) step → (o : Option ClauseName) → LeadsFound g o step → o ≡ next_like_of (first_key h) Start (living (v g.place) (indicator h)) →
+        go : (step : Step) → IsStepOf seen (indicator h) (first_key h) (likely (first_key h) (rest_at seen (indicator h) (reaches.Base Start))) step → (o : Option ClauseName) → LeadsFound g o step → o ≡ next_like_of (first_key h) Start (living (v g.place) (indicator h)) →
             spot_behind (spots.Seek g (reaches.Base Start)) step ≡ Some spot → exists (whole seen) (indicator t) ≡ true
         go (steps.Next y q) says o leads e is = likely-there (reaches.Base Start) front-same _ _ says.whole call
         go steps.Nothing says o leads e is = absurd (cc)

@@ -12,7 +12,7 @@ use Rattle.plread.specs.Texts.{listed}
 use Rattle.plstore.specs.Looking.{Views}
 use Rattle.plviews.specs.Layers.{Layered}
 use Rattle.plprogram.specs.Program.{Program}
-use Rattle.plsearch.specs.Types.{Fail, Throw, Element, Keep, Case, Kept, Local, Run}
+use Rattle.plsearch.specs.Types.{Fail, Throw, Element, Keep, Case, Kept, Local, Supply}
 use Rattle.plsearch.specs.Lists.{bind_goals}
 use Rattle.plsearch.specs.Running.{runnable}
 use Rattle.plsearch.specs.Collecting.{copies_from, count_new, dropped, gathered, kept_below, renumbered}
@@ -42,7 +42,7 @@ module _ (P : Program) (v : Views) (s : Progress) (o : Outcome) (ball : Tree) (f
       return below (run_in v left answers s.machine) (met_by (unify c (copied n ball)) r ball found (record { goals = gs; variables = n }) (deeper below 0) (local_of s.machine))
   unfolding turn resume
   catcher-turn left answers =
-      let run : Run = run_in v left answers s.machine in
+      let run : Supply = run_in v left answers s.machine in
       ap (turn P) (carried P v s.machine o (catching c r gs n ∷ below) at was left answers ∙ ap (λ x. record { mode = Back x; cases = catching c r gs n ∷ below; run = run }) carries)
       ∙ ap (λ b. return below run (if b then met_by (unify c (copied n ball)) r ball found (record { goals = gs; variables = n }) (deeper below 0) (local_of s.machine) else Keep (Throw ball found) (local_of s.machine))) active
 
@@ -52,7 +52,7 @@ module _ (P : Program) (v : Views) (s : Progress) (o : Outcome) (ball : Tree) (f
   quiet-other st basis none below_is less =
       quiet P v s (subst IsPlain (sym at) tt) st s.machine.mode basis (λ last. last) (back-may s.machine.layer.own st s.machine.mode o at) (λ is. carried-behind s.machine.stack st s.machine.mode o at less is.carry) (subst IsPlain (sym at) tt)
       (λ left answers few.
-      let run : Run = run_in v left answers s.machine in
+      let run : Supply = run_in v left answers s.machine in
       carried P v (record s.machine { stack = st }) o below at below_is left answers
       ∙ ap (λ x. record { mode = Back x; cases = below; run = run }) carries
       ∙ sym (catcher-turn left answers ∙ ap (λ σ. return below run (met_by σ r ball found (record { goals = gs; variables = n }) (deeper below 0) (local_of s.machine))) none))
@@ -69,7 +69,7 @@ module _ (P : Program) (v : Views) (s : Progress) (o : Outcome) (ball : Tree) (f
       (ap (λ (b : Basis). b.latest.place) (did.basis ∙ basis)) did.plain
       (λ left answers few.
       let w : Local = local_of s.machine in
-      let run : Run = run_in v left answers s.machine in
+      let run : Supply = run_in v left answers s.machine in
       ap (λ x. machine P v left answers x.machine) (sym did.frame)
       ∙ did.is v h below was_st left answers
       ∙ ap₂ (λ u es. return below run (recovers (runnable u) (deeper below 0) es st.env.count w)) runs goals

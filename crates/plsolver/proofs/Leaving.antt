@@ -4,7 +4,7 @@ use Rattle.std.proofs.lemmas.Bool.{eq-eqb, ne_eqb}
 use Rattle.plevent.specs.Search.{Answer}
 use Rattle.plstore.specs.Looking.{Views}
 use Rattle.plprogram.specs.Program.{Program}
-use Rattle.plsearch.specs.Types.{Fail, CutTo, Until, Never, Marker, Handle, Handler, Catch, Gather, Undo, Keep, Place, Case, Choice, Mark, Local, Run}
+use Rattle.plsearch.specs.Types.{Fail, CutTo, Until, Never, Marker, Handle, Handler, Catch, Gather, Undo, Keep, Resolvent, Case, Choice, Mark, Local, Supply}
 use Rattle.plsearch.specs.Rows.{meet}
 use Rattle.plsearch.specs.Handlers.{resume}
 use Rattle.plsearch.specs.Engine.{deeper, stop_cut}
@@ -58,7 +58,7 @@ quiet-left P v s st level rest at until inside left = record {
   latest = ap (λ (b : Basis). b.latest.place) left.keeps.basis;
   plain = subst IsPlain (sym at) tt;
   rest = λ more answers few.
-      let run : Run = run_in v more answers s.machine in
+      let run : Supply = run_in v more answers s.machine in
       ap (Rest P) (after more answers)
       ∙ ap (λ cs. Rest P (record { mode = At p; cases = cs; run = run })) (sym (plain-emptied e.inside (Choice [] ∷ e.below)))
       ∙ sym (catchers-empty P (level - 1) e.catcher e.recovery e.place (plain e.inside []) e.below p run (e.at ∙ level-is) (left.most (level - 1) level-is))
@@ -71,7 +71,7 @@ quiet-left P v s st level rest at until inside left = record {
     e : CatcherLeft (db_in P v s.machine) s.machine.stack st level
     e = left.cases (db_in P v s.machine)
 
-    p : Place
+    p : Resolvent
     p = record { goals = goals_of s.machine.stack rest; variables = s.machine.stack.env.count }
 
     level-is : level ≡ suc (level - 1)
@@ -103,14 +103,14 @@ other-level : (k d : ℕ) → k < d → stop_cut d (CutTo k) ≡ CutTo k
 other-level k d less = ap (λ b. if b then Fail else CutTo k) (ne_eqb k d (λ same. absurd (omega (arith, less, same))))
 
 -- no handler has a part in a cut
-handles-cut : (h : Handler) (p : Place) (d k : ℕ) (w : Local) → resume h p d (CutTo k) w ≡ Keep (CutTo k) w
+handles-cut : (h : Handler) (p : Resolvent) (d k : ℕ) (w : Local) → resume h p d (CutTo k) w ≡ Keep (CutTo k) w
 unfolding resume
 handles-cut (Catch c r) p d k w = refl
 handles-cut (Gather l) p d k w = refl
 handles-cut Undo p d k w = refl
 
 -- a case inside of the level passes a cut on
-passes-cut : (P : Program) (k : ℕ) (c : Case) (cases : List Case) (run : Run) → k < deeper cases 0 →
+passes-cut : (P : Program) (k : ℕ) (c : Case) (cases : List Case) (run : Supply) → k < deeper cases 0 →
     ◌≡◌ {A = Machine} (turn P (record { mode = Back (CutTo k); cases = c ∷ cases; run = run })) (record { mode = Back (CutTo k); cases = cases; run = run })
 unfolding turn
 passes-cut P k (Choice []) cases run less = ap (λ r. record { mode = Back r; cases = cases; run = run }) (other-level k (deeper cases 0) less)
@@ -119,14 +119,14 @@ passes-cut P k (Mark l) cases run less = refl
 passes-cut P k (Handle h p) cases run less = ap (return cases run) (handles-cut h p (deeper cases 0) k run.local)
 
 -- at the level it ends as failure
-ends-cut : (P : Program) (k : ℕ) (ps : List Place) (cases : List Case) (run : Run) → deeper cases 0 ≡ k →
+ends-cut : (P : Program) (k : ℕ) (ps : List Resolvent) (cases : List Case) (run : Supply) → deeper cases 0 ≡ k →
     ◌≡◌ {A = Machine} (turn P (record { mode = Back (CutTo k); cases = Choice ps ∷ cases; run = run })) (record { mode = Back Fail; cases = cases; run = run })
 unfolding turn
 ends-cut P k [] cases run is = ap (λ r. record { mode = Back r; cases = cases; run = run }) (this-level k (deeper cases 0) is)
 ends-cut P k (p ∷ ps) cases run is = ap (λ r. record { mode = Back r; cases = cases; run = run }) (this-level k (deeper cases 0) is)
 
 -- so a cut is failure where all that it gives up is emptied
-cut-fails : (P : Program) (k : ℕ) (inside below : List Case) (ps : List Place) (run : Run) → deeper below 0 ≡ k →
+cut-fails : (P : Program) (k : ℕ) (inside below : List Case) (ps : List Resolvent) (run : Supply) → deeper below 0 ≡ k →
     Rest P (record { mode = Back (CutTo k); cases = inside ++ Choice ps ∷ below; run = run }) ≡ Rest P (record { mode = Back Fail; cases = emptied inside (Choice [] ∷ below); run = run })
 cut-fails P k [] below ps run is =
     Rest-turn P (record { mode = Back (CutTo k); cases = Choice ps ∷ below; run = run })
@@ -149,7 +149,7 @@ quiet-never P v s st level rest at never drops = record {
   latest = ap (λ (b : Basis). b.latest.place) drops.keeps.basis;
   plain = tt;
   rest = λ left answers few.
-      let run : Run = run_in v left answers s.machine in
+      let run : Supply = run_in v left answers s.machine in
       ap (Rest P) (after left answers)
       ∙ ap (λ cs. Rest P (record { mode = Back Fail; cases = cs; run = run })) e.cases
       ∙ sym (cut-fails P level e.inside e.below e.places run e.at)

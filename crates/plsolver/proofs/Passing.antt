@@ -15,7 +15,7 @@ use Rattle.plevent.specs.Keys.{first_key, may_fit}
 use Rattle.plstore.specs.Like.{fits}
 use Rattle.plstore.proofs.Keys.{any-left, passed-over}
 use Rattle.plviews.specs.Lookups.{likely}
-use Rattle.plsearch.specs.Types.{Element, Place}
+use Rattle.plsearch.specs.Types.{Element, Resolvent}
 use Rattle.plsearch.specs.Lookups.{as_fact, clause_term, has_head}
 use Rattle.plstack.specs.declared.frame.Use.{Use}
 use Rattle.plstack.specs.declared.frame.Use.TheVariants as uses
@@ -40,7 +40,7 @@ unfit uses.Erase t c e n = told-unfit t c e n
 
 -- a goal that is tried with clauses that are alive
 module _ (u : Use) (t : Tree) (d n : ℕ) (es : List Element) where
-  abbrev pub places : List Living → List Place
+  abbrev pub places : List Living → List Resolvent
   places xs = filter_map (tried d n t es) (map (candidate_of u) xs)
 
   pub places-append : (xs ys : List Living) → places (xs ++ ys) ≡ places xs ++ places ys

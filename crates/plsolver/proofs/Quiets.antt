@@ -8,7 +8,7 @@ use Rattle.plevent.specs.declared.update.ClauseName.{ClauseName}
 use Rattle.plstore.specs.Looking.{Views}
 use Rattle.pltx.specs.Own.{State as Own}
 use Rattle.plprogram.specs.Program.{Program}
-use Rattle.plsearch.specs.Types.{Result, Spent, Throw, Commit, Until, Collect, Element, Goal, Marker, Handle, Handler, Catch, Gather, Undo, Keep, Place, Case, Choice, Local, Move, Run}
+use Rattle.plsearch.specs.Types.{Result, Spent, Throw, Commit, Until, Collect, Element, Goal, Marker, Handle, Handler, Catch, Gather, Undo, Keep, Resolvent, Case, Choice, Local, Move, Supply}
 use Rattle.plsearch.specs.Collecting.{with_copy}
 use Rattle.plsearch.specs.Rows.{select, meet}
 use Rattle.plsearch.specs.Handlers.{resume, has, met_by}
@@ -154,7 +154,7 @@ quiet-stop P v s at none =
     (λ left answers few. sym (ap (turn P) (at-goals P v s.machine [] at none left answers)))
     (λ r is no. not_back s.machine r at is)
 
-spent : (P : Program) (cases : List Case) (row : Local → Move) (run : Run) (n : ℕ) → n ≡ 0 → ◌≡◌ {A = Machine} (record { mode = Back Spent; cases = cases; run = run }) (step cases row run n)
+spent : (P : Program) (cases : List Case) (row : Local → Move) (run : Supply) (n : ℕ) → n ≡ 0 → ◌≡◌ {A = Machine} (record { mode = Back Spent; cases = cases; run = run }) (step cases row run n)
 spent P cases row run zero e = refl
 spent P cases row run (suc n) e = absurd (omega (arith, e))
 
@@ -254,7 +254,7 @@ quiet-close P v s st at basis was =
     (λ x is no. some_case _ _ _ was no)
 
 -- a result goes through a choice with nothing left as it is, and so through several
-through-one : (P : Program) (r : Outcome) (cases : List Case) (run : Run) →
+through-one : (P : Program) (r : Outcome) (cases : List Case) (run : Supply) →
     ◌≡◌ {A = Machine} (turn P (record { mode = Back (result_of r); cases = Choice [] ∷ cases; run = run })) (record { mode = Back (result_of r); cases = cases; run = run })
 unfolding turn
 through-one P outcomes.Stop cases run = refl
@@ -263,7 +263,7 @@ through-one P (outcomes.Throw t ls) cases run = refl
 through-one P (outcomes.Halted n) cases run = refl
 through-one P outcomes.Spent cases run = refl
 
-pub goes-through : (P : Program) (r : Outcome) (n : ℕ) (below : List Case) (run : Run) → Rest P (record { mode = Back (result_of r); cases = plain n below; run = run }) ≡ Rest P (record { mode = Back (result_of r); cases = below; run = run })
+pub goes-through : (P : Program) (r : Outcome) (n : ℕ) (below : List Case) (run : Supply) → Rest P (record { mode = Back (result_of r); cases = plain n below; run = run }) ≡ Rest P (record { mode = Back (result_of r); cases = below; run = run })
 goes-through P r zero below run = refl
 goes-through P r (suc n) below run =
     Rest-turn P (record { mode = Back (result_of r); cases = plain (suc n) below; run = run })
@@ -302,7 +302,7 @@ quiet-plain P v s st back basis closes = record {
     after left answers = carried P v (record s.machine { stack = st }) back.0 (cases_of (db_in P v s.machine) st) back.1 refl left answers
 
 -- a choice that has no place left for the result is closed
-choice-result : (P : Program) (r : Outcome) (ps : List Place) (cases : List Case) (run : Run) → (r ≡ outcomes.Fail → ps ≡ []) →
+choice-result : (P : Program) (r : Outcome) (ps : List Resolvent) (cases : List Case) (run : Supply) → (r ≡ outcomes.Fail → ps ≡ []) →
     ◌≡◌ {A = Machine} (record { mode = Back (result_of r); cases = cases; run = run }) (turn P (record { mode = Back (result_of r); cases = Choice ps ∷ cases; run = run }))
 unfolding turn
 choice-result P outcomes.Fail ps cases run none = rw (none refl) refl
@@ -322,7 +322,7 @@ module _ (P : Program) (v : Views) (s : Progress) (st : State) (back : IsBack s)
 
   -- one turn, where another stack carries what was carried
   pub quiet-closed : (c : Case) → cases_in P v s.machine ≡ c ∷ cases_of (db_in P v s.machine) st → ((ls : List ℕ) (db : Database) → AreNamed ls (cases_of db s.machine.stack) → AreNamed ls (cases_of db st)) →
-      ((run : Run) → ◌≡◌ {A = Machine} (record { mode = Back (result_of back.0); cases = cases_of (db_in P v s.machine) st; run = run }) (turn P (record { mode = Back (result_of back.0); cases = c ∷ cases_of (db_in P v s.machine) st; run = run }))) →
+      ((run : Supply) → ◌≡◌ {A = Machine} (record { mode = Back (result_of back.0); cases = cases_of (db_in P v s.machine) st; run = run }) (turn P (record { mode = Back (result_of back.0); cases = c ∷ cases_of (db_in P v s.machine) st; run = run }))) →
       QuietIn P v s (at_stack s st)
   quiet-closed c was less turned =
       quiet P v s (subst IsPlain (sym back.1) tt) st s.machine.mode basis (λ last. last) (back-may s.machine.layer.own st s.machine.mode back.0 back.1) (closed-of less) (subst IsPlain (sym back.1) tt)
@@ -332,7 +332,7 @@ module _ (P : Program) (v : Views) (s : Progress) (st : State) (back : IsBack s)
       ∙ sym (ap (turn P) (carried P v s.machine back.0 (c ∷ cases_of (db_in P v s.machine) st) back.1 was left answers)))
       (λ x is no. some_case _ _ _ was no)
 
-  pub quiet-choice : (ps : (db : Database) → List Place) → ((db : Database) → cases_of db s.machine.stack ≡ Choice (ps db) ∷ cases_of db st) → (s.machine.mode ≡ modes.Back outcomes.Fail → ps (db_in P v s.machine) ≡ []) → QuietIn P v s (at_stack s st)
+  pub quiet-choice : (ps : (db : Database) → List Resolvent) → ((db : Database) → cases_of db s.machine.stack ≡ Choice (ps db) ∷ cases_of db st) → (s.machine.mode ≡ modes.Back outcomes.Fail → ps (db_in P v s.machine) ≡ []) → QuietIn P v s (at_stack s st)
   quiet-choice ps was none =
       quiet-closed (Choice (ps (db_in P v s.machine))) (was (db_in P v s.machine)) (λ ls db named. subst (AreNamed ls) (was db) named)
       (λ run. choice-result P back.0 (ps (db_in P v s.machine)) (cases_of (db_in P v s.machine) st) run (λ f. none (back.1 ∙ ap modes.Back f)))
@@ -371,7 +371,7 @@ both_are b iff is = grind (arith, is, iff.0)
 -- ---- at a handler that passes the result on
 
 -- a catcher whose goal no ball comes from passes every result on, and so does a handler of what was kept but for failure
-keeps : (h : Handler) (p : Place) (d : ℕ) (r : Outcome) (w : Local) → ((c x : Tree) → h ≡ Catch c x → result_throws d r ≡ true → ⊥) → ((l : Tree) → h ≡ Gather l → r ≡ outcomes.Fail → ⊥) → (h ≡ Undo → ⊥) →
+keeps : (h : Handler) (p : Resolvent) (d : ℕ) (r : Outcome) (w : Local) → ((c x : Tree) → h ≡ Catch c x → result_throws d r ≡ true → ⊥) → ((l : Tree) → h ≡ Gather l → r ≡ outcomes.Fail → ⊥) → (h ≡ Undo → ⊥) →
     resume h p d (result_of r) w ≡ Keep (result_of r) w
 unfolding resume
 keeps (Catch c r) p d outcomes.Fail w not fails none = refl
@@ -390,7 +390,7 @@ keeps (Gather l) p d (outcomes.Halted n) w not fails none = refl
 keeps (Gather l) p d outcomes.Spent w not fails none = refl
 keeps Undo p d r w not fails none = absurd (none refl)
 
-pub quiet-handler : (P : Program) (v : Views) (s : Progress) (st : State) (h : (db : Database) → Handler) (p : (db : Database) → Place) → IsBack s → st.basis ≡ s.machine.stack.basis → ((db : Database) → cases_of db s.machine.stack ≡ Handle (h db) (p db) ∷ cases_of db st) →
+pub quiet-handler : (P : Program) (v : Views) (s : Progress) (st : State) (h : (db : Database) → Handler) (p : (db : Database) → Resolvent) → IsBack s → st.basis ≡ s.machine.stack.basis → ((db : Database) → cases_of db s.machine.stack ≡ Handle (h db) (p db) ∷ cases_of db st) →
     ((c x : Tree) → h (db_in P v s.machine) ≡ Catch c x → throws_to (deeper (cases_of (db_in P v s.machine) st) 0) s.machine.mode ≡ true → ⊥) → ((l : Tree) → h (db_in P v s.machine) ≡ Gather l → s.machine.mode ≡ modes.Back outcomes.Fail → ⊥) →
     (h (db_in P v s.machine) ≡ Undo → ⊥) → QuietIn P v s (at_stack s st)
 unfolding turn

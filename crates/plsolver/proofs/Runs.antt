@@ -8,7 +8,7 @@ use Rattle.plevent.specs.Search.{Answer}
 use Rattle.plstore.specs.Looking.{Views}
 use Rattle.plviews.specs.Views.{AreOrdered}
 use Rattle.plprogram.specs.Program.{Program}
-use Rattle.plsearch.specs.Types.{Element, Goal, Place, Local, Move}
+use Rattle.plsearch.specs.Types.{Element, Goal, Resolvent, Local, Move}
 use Rattle.plsearch.specs.Forms.{form}
 use Rattle.plsearch.specs.Rows.{select, row, meet}
 use Rattle.plsearch.specs.Machines.Machine.{At, Rest, move, turn}
@@ -122,7 +122,7 @@ quiet_lighter P s new within q = (q no_views no_order).lighter within
 
 -- ---- steps
 
-pub at-place : (P : Program) (v : Views) (s : Reached) (p : Place) → IsPlain s.mode → mode_of s.mode s.stack ≡ At p → (left : ℕ) (answers : List Answer) →
+pub at-place : (P : Program) (v : Views) (s : Reached) (p : Resolvent) → IsPlain s.mode → mode_of s.mode s.stack ≡ At p → (left : ℕ) (answers : List Answer) →
     machine P v left answers s ≡ record { mode = At p; cases = cases_in P v s; run = run_in v left answers s }
 at-place P v s p plain at left answers = machine-is P v s (At p) (cases_in P v s) (below_in v s) (local_of s) plain at refl refl refl left answers
 

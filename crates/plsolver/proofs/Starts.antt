@@ -9,7 +9,7 @@ use Rattle.pltx.specs.Own.{any_open, nothing}
 use Rattle.plviews.specs.Layers.{bottom, Layered}
 use Rattle.plviews.specs.declared.view.View.{View}
 use Rattle.plprogram.specs.Program.{Program}
-use Rattle.plsearch.specs.Types.{Goal, Place, Choice}
+use Rattle.plsearch.specs.Types.{Goal, Resolvent, Choice}
 use Rattle.plsearch.specs.Engine.{out, outs}
 use Rattle.plsearch.specs.Machines.Machine.{At, Rest}
 use Rattle.plsearch.specs.Search.{once, start_from, start_of, search_of, ending_of}
@@ -84,7 +84,7 @@ start-fits (g ∷ gs) = ((le_refl _, inl (refl, refl), (start-fits gs).0), (star
 pub starts-fit : (s opened : State) (list : Continuation) (gs : List Tree) → s.frames ≡ [] → Starts s list gs → Opens s opened (Choice [] ∷ []) → IsFit opened list
 starts-fit s opened list gs frames starts o =
     fits-opened s opened (Choice [] ∷ []) o list starts.list_there
-    (subst (λ fs. FitsIn (Choosing ∷ kinds_of (reverse fs)) (goals_of s list)) (sym frames) (subst (FitsIn (Choosing ∷ [])) (sym (ap (λ (p : Place). p.goals) starts.place)) (start-fits gs)))
+    (subst (λ fs. FitsIn (Choosing ∷ kinds_of (reverse fs)) (goals_of s list)) (sym frames) (subst (FitsIn (Choosing ∷ [])) (sym (ap (λ (p : Resolvent). p.goals) starts.place)) (start-fits gs)))
 
 -- nothing is open at the start
 start-tied : (s : Reached) → s.stack.basis.latest ≡ record { place = 0; count = 0 } → s.stack.basis.starts ≡ [] → s.layer ≡ bottom → IsTied s

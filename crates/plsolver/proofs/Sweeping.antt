@@ -34,7 +34,7 @@ use Rattle.plviews.specs.declared.lookup.Step.TheVariants as steps
 use Rattle.plviews.specs.declared.view.View.{View}
 use Rattle.plviews.specs.Layers.{Layered}
 use Rattle.plviews.specs.Views.{seen_in, sight_in, whole, AreOrdered, IsUntouched, Sight}
-use Rattle.plviews.specs.Lookups.{likely, rest_at, Begins, Says}
+use Rattle.plviews.specs.Lookups.{likely, rest_at, Begins, IsStepOf}
 use Rattle.plviews.proofs.Seen.{from-start}
 use Rattle.plstack.specs.Places.{alive_as, named_so}
 use Rattle.plstack.specs.State.{goals_of, walks_in}
@@ -95,7 +95,7 @@ module _ (s : Sight) (n : ℕ) (h : Tree) where
       ∙ sym (ap (λ zs. filter (has_head n h) (zs ++ ys)) (alive-is s y b.clause b.alive))
 
   -- where a step leads the same is to be erased
-  pub swept-behind : (w x : Sweep) (r : Reach) (step : Step) → w.spot ≡ sweeps.Seek r → Says s (indicator h) (first_key h) (likely (first_key h) (rest_at s (indicator h) r)) step → sweep_behind step ≡ Some x.spot → x.updates.items ≡ w.updates.items →
+  pub swept-behind : (w x : Sweep) (r : Reach) (step : Step) → w.spot ≡ sweeps.Seek r → IsStepOf s (indicator h) (first_key h) (likely (first_key h) (rest_at s (indicator h) r)) step → sweep_behind step ≡ Some x.spot → x.updates.items ≡ w.updates.items →
       swept s n h w ≡ swept s n h x
   swept-behind w x r step at says is updates =
       ap (λ z. w.updates.items ++ erasures (to_sweep s (indicator h) z)) at
@@ -105,7 +105,7 @@ module _ (s : Sight) (n : ℕ) (h : Tree) where
       to-spot : {y z : SweepSpot} → Some y ≡ Some z → y ≡ z
       to-spot e = cc
 
-      go : (step : Step) → Says s (indicator h) (first_key h) (likely (first_key h) (rest_at s (indicator h) r)) step → sweep_behind step ≡ Some x.spot → w.updates.items ++ erasures (rest_at s (indicator h) r) ≡ w.updates.items ++ erasures (to_sweep s (indicator h) x.spot)
+      go : (step : Step) → IsStepOf s (indicator h) (first_key h) (likely (first_key h) (rest_at s (indicator h) r)) step → sweep_behind step ≡ Some x.spot → w.updates.items ++ erasures (rest_at s (indicator h) r) ≡ w.updates.items ++ erasures (to_sweep s (indicator h) x.spot)
       go (steps.Next y q) says is =
           ap (λ xs. w.updates.items ++ map Erase (names_of xs)) (begins-heads y (rest_at s (indicator h) r) (rest_at s (indicator h) q) says)
           ∙ ap (λ z. w.updates.items ++ erasures (to_sweep s (indicator h) z)) (to-spot is)
@@ -115,13 +115,13 @@ module _ (s : Sight) (n : ℕ) (h : Tree) where
           ∙ ap (λ z. w.updates.items ++ erasures (to_sweep s (indicator h) z)) (to-spot is)
 
   -- no clause is left
-  pub swept-all : (w : Sweep) (r : Reach) (step : Step) → w.spot ≡ sweeps.Seek r → Says s (indicator h) (first_key h) (likely (first_key h) (rest_at s (indicator h) r)) step → sweep_behind step ≡ None → swept s n h w ≡ w.updates.items
+  pub swept-all : (w : Sweep) (r : Reach) (step : Step) → w.spot ≡ sweeps.Seek r → IsStepOf s (indicator h) (first_key h) (likely (first_key h) (rest_at s (indicator h) r)) step → sweep_behind step ≡ None → swept s n h w ≡ w.updates.items
   swept-all w r step at says none =
       ap (λ z. w.updates.items ++ erasures (to_sweep s (indicator h) z)) at
       ∙ ap (λ xs. w.updates.items ++ map Erase (names_of xs)) (heads-likely n h (rest_at s (indicator h) r) ∙ ap (filter (has_head n h)) (go step says none))
       ∙ append-nil w.updates.items
     where
-      go : (step : Step) → Says s (indicator h) (first_key h) (likely (first_key h) (rest_at s (indicator h) r)) step → sweep_behind step ≡ None → likely (first_key h) (rest_at s (indicator h) r) ≡ []
+      go : (step : Step) → IsStepOf s (indicator h) (first_key h) (likely (first_key h) (rest_at s (indicator h) r)) step → sweep_behind step ≡ None → likely (first_key h) (rest_at s (indicator h) r) ≡ []
       go (steps.Next y q) says none = absurd (cc)
       go steps.Nothing says none = says
       go (steps.Asks c) says none = absurd (cc)
@@ -355,7 +355,7 @@ module _ (s : Progress) (c : Cell) (g : View) (z : SweepSpot) (found : Option Cl
       subst (λ k. StepsFound drafted looked-for k found step) (sym stands.2 ∙ ap (λ (x : Sweep). x.view) same.1) (subst (λ b. StepsFound drafted (value s.machine.stack.env.heap b) g found step) same.0 told)
 
   module _ (v : Views) (ordered : AreOrdered v) (is : found ≡ next_like_of (first_key looked-for) cur (living (v w.view.place) (indicator looked-for))) where
-    abbrev told-there : Says (sight_in v drafted w.view) (indicator looked-for) (first_key looked-for) (likely (first_key looked-for) (rest_at (sight_in v drafted w.view) (indicator looked-for) (reaches.Base cur))) step
+    abbrev told-there : IsStepOf (sight_in v drafted w.view) (indicator looked-for) (first_key looked-for) (likely (first_key looked-for) (rest_at (sight_in v drafted w.view) (indicator looked-for) (reaches.Base cur))) step
     told-there = step-of.tells (v w.view.place) cur (ordered.ordered w.view.place) (ordered.under w.view.place) is
 
     -- the sweep stands there

@@ -16,7 +16,7 @@ use Rattle.pltx.specs.declared.level.Level.{Level}
 use Rattle.plviews.specs.Layers.{Layered}
 use Rattle.plprogram.specs.Program.{Program}
 use Rattle.plterm.specs.Tree.{Tree}
-use Rattle.plsearch.specs.Types.{Throw, Undo, Transact, Marker, Element, Asking, Erase, Await, GoesOn, Handle, Keep, Place, Mark, Local, Move, Run}
+use Rattle.plsearch.specs.Types.{Throw, Undo, Transact, Marker, Element, Asking, Erase, Await, GoesOn, Handle, Keep, Resolvent, Mark, Local, Move, Supply}
 use Rattle.plsearch.specs.Moves.{publishing}
 use Rattle.plsearch.specs.Rows.{meet, published}
 use Rattle.plsearch.specs.Handlers.{has, resume, undone}
@@ -238,7 +238,7 @@ module _ (P : Program) (v : Views) (s : Progress) (st : State) (m : Going) (oute
   abbrev updates : List Update
   updates = published (ending true s.machine.layer.own)
 
-  abbrev place : Place
+  abbrev place : Resolvent
   place = record { goals = publishing updates (goals_of s.machine.stack rest); variables = s.machine.stack.env.count }
 
   e : Empties (db_in P v s.machine) s.machine.stack st outer
@@ -257,7 +257,7 @@ module _ (P : Program) (v : Views) (s : Progress) (st : State) (m : Going) (oute
     latest = place-ends _ _ passes.basis;
     plain = plain;
     rest = λ left answers few.
-        let run : Run = run_in v left answers later in
+        let run : Supply = run_in v left answers later in
         ap (Rest P) (after left answers)
         ∙ ap (λ cs. Rest P (record { mode = At place; cases = cs; run = run })) e.cases
         ∙ sym (cuts-empty P outer e.inside e.below e.places place run e.at (publishing-most outer updates (goals_of s.machine.stack rest) passes.most))
@@ -294,7 +294,7 @@ module _ (P : Program) (v : Views) (s : Progress) (st : State) (m : Going) (oute
 -- ---- without success
 
 -- the level of the case is among those of a ball that is carried
-undoes : (p : Place) (d : ℕ) (r : Outcome) (w : Local) → (IsFinal r → ⊥) → ((b : Tree) (ls : List ℕ) → result_of r ≡ Throw b ls → has d ls ≡ true) → resume Undo p d (result_of r) w ≡ Keep (result_of r) (undone w)
+undoes : (p : Resolvent) (d : ℕ) (r : Outcome) (w : Local) → (IsFinal r → ⊥) → ((b : Tree) (ls : List ℕ) → result_of r ≡ Throw b ls → has d ls ≡ true) → resume Undo p d (result_of r) w ≡ Keep (result_of r) (undone w)
 unfolding resume
 undoes p d outcomes.Stop w more named = absurd (more tt)
 undoes p d outcomes.Fail w more named = refl
@@ -302,7 +302,7 @@ undoes p d (outcomes.Throw b ls) w more named = ap (λ h. Keep (Throw b ls.items
 undoes p d (outcomes.Halted n) w more named = absurd (more tt)
 undoes p d outcomes.Spent w more named = absurd (more tt)
 
-keeps-last : (p : Place) (d : ℕ) (r : Outcome) (w : Local) → IsFinal r → resume Undo p d (result_of r) w ≡ Keep (result_of r) w
+keeps-last : (p : Resolvent) (d : ℕ) (r : Outcome) (w : Local) → IsFinal r → resume Undo p d (result_of r) w ≡ Keep (result_of r) w
 unfolding resume
 keeps-last p d outcomes.Stop w last = refl
 keeps-last p d outcomes.Fail w last = absurd last
@@ -310,7 +310,7 @@ keeps-last p d (outcomes.Throw b ls) w last = absurd last
 keeps-last p d (outcomes.Halted n) w last = refl
 keeps-last p d outcomes.Spent w last = refl
 
-module _ (P : Program) (v : Views) (s : Progress) (st : State) (back : IsBack s) (sound : IsMachine s.machine) (p : (db : Database) → Place) (was : (db : Database) → cases_of db s.machine.stack ≡ Handle Undo (p db) ∷ cases_of db st) (ends : Ends s.machine.stack.basis st.basis) where
+module _ (P : Program) (v : Views) (s : Progress) (st : State) (back : IsBack s) (sound : IsMachine s.machine) (p : (db : Database) → Resolvent) (was : (db : Database) → cases_of db s.machine.stack ≡ Handle Undo (p db) ∷ cases_of db st) (ends : Ends s.machine.stack.basis st.basis) where
   less : (ls : List ℕ) (db : Database) → AreNamed ls (cases_of db s.machine.stack) → AreNamed ls (cases_of db st)
   less ls db named = (subst (AreNamed ls) (was db) named).1
 
@@ -370,7 +370,7 @@ module _ (P : Program) (v : Views) (s : Progress) (st : State) (back : IsBack s)
 
 -- the innermost case was closed, where what is open ends
 pub record Undone (s st : State) : Type 0 where
-  pub place : (db : Database) → Place
+  pub place : (db : Database) → Resolvent
   pub was : (db : Database) → cases_of db s ≡ Handle Undo (place db) ∷ cases_of db st
   pub ends : Ends s.basis st.basis
   pub sees : SeesSoFar st

@@ -13,7 +13,7 @@ use Rattle.plevent.specs.declared.update.ClauseName.{ClauseName}
 use Rattle.plstore.specs.Looking.{Views}
 use Rattle.pltx.specs.Own.{any_open}
 use Rattle.plprogram.specs.Program.{Program}
-use Rattle.plsearch.specs.Types.{Awaits, Element, Case, Choice, Mark, Handle, Catch, Gather, Undo, Local, Run, Asks}
+use Rattle.plsearch.specs.Types.{Awaits, Element, Case, Choice, Mark, Handle, Catch, Gather, Undo, Local, Supply, Asks}
 use Rattle.plsearch.specs.Rows.{erasing, meet}
 use Rattle.plsearch.specs.Replies.{Outcome as Heard, Served, Late, outcome, follows, answered, founded}
 use Rattle.plsearch.specs.Handlers.{resume}
@@ -47,7 +47,7 @@ use Rattle.plsolver.proofs.Runs.{at-place}
 -- ---- where it waits
 
 -- nothing catches a question
-asks-out : (P : Program) (cases : List Case) (q : Item) (run : Run) → outs (Visit P) 0 cases (Awaits q, run) ≡ (Awaits q, run)
+asks-out : (P : Program) (cases : List Case) (q : Item) (run : Supply) → outs (Visit P) 0 cases (Awaits q, run) ≡ (Awaits q, run)
 unfolding outs out choice resume
 asks-out P [] q run = refl
 asks-out P (Choice [] ∷ cases) q run = asks-out P cases q run
@@ -57,7 +57,7 @@ asks-out P (Handle (Catch c r) p ∷ cases) q run = asks-out P cases q run
 asks-out P (Handle (Gather l) p ∷ cases) q run = asks-out P cases q run
 asks-out P (Handle Undo p ∷ cases) q run = asks-out P cases q run
 
-asks-rest : (P : Program) (cases : List Case) (q : Item) (run : Run) → Rest P (record { mode = Back (Awaits q); cases = cases; run = run }) ≡ (Awaits q, run)
+asks-rest : (P : Program) (cases : List Case) (q : Item) (run : Supply) → Rest P (record { mode = Back (Awaits q); cases = cases; run = run }) ≡ (Awaits q, run)
 unfolding Rest
 asks-rest P cases q run = asks-out P cases q run
 
@@ -175,7 +175,7 @@ answer-now P v s x q a at asks most left answers =
     let e : Element = element_of s.stack.env.heap x in
     let es : List Element = goals_of s.stack s.stack.goals in
     let n : ℕ = s.stack.env.count in
-    let run : Run = run_in v left (a ∷ answers) s in
+    let run : Supply = run_in v left (a ∷ answers) s in
     ap (λ m. ending_of most (Rest P m)) (at-place P v s (record { goals = e ∷ es; variables = n }) (subst IsPlain (sym at) tt) (ap (λ m. mode_of m s.stack) at) left (a ∷ answers))
     ∙ ap (ending_of most) (Rest-turn P _)
     ∙ ap (λ m. ending_of most (Rest P (meets P (cases_in P v s) e es n run m))) asks

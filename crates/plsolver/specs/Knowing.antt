@@ -17,7 +17,7 @@ use Rattle.plviews.specs.declared.lookup.Reach.TheVariants as reaches
 use Rattle.plviews.specs.declared.lookup.Step.{Step}
 use Rattle.plviews.specs.declared.view.View.{View}
 use Rattle.plviews.specs.Views.{sight, whole, IsUntouched}
-use Rattle.plviews.specs.Lookups.{likely, rest_at, Leads, LeadsFound, Says}
+use Rattle.plviews.specs.Lookups.{likely, rest_at, Leads, LeadsFound, IsStepOf}
 use Rattle.plstack.specs.declared.frame.Use.{Use}
 use Rattle.plstack.specs.Places.{candidate_of}
 use Rattle.plsolver.specs.declared.step.Known.{Known}
@@ -25,13 +25,13 @@ use Rattle.plsolver.specs.declared.step.Known.TheVariants as knowns
 
 -- of the clauses that may have the head h, what comes next behind a reach
 abbrev pub Tells : List Update → Tree → View → Reach → Step → Type 0
-Tells own h g r step = (us : List Stamped) → Ordered us → AllUnder g.place us → Says (sight us g own) (indicator h) (first_key h) (likely (first_key h) (rest_at (sight us g own) (indicator h) r)) step
+Tells own h g r step = (us : List Stamped) → Ordered us → AllUnder g.place us → IsStepOf (sight us g own) (indicator h) (first_key h) (likely (first_key h) (rest_at (sight us g own) (indicator h) r)) step
 
 -- the same where the journal gave a name, or none, behind a cursor
 abbrev pub TellsFound : List Update → Tree → View → Option ClauseName → Step → Type 0
 TellsFound own h g found step =
     (us : List Stamped) (c : Cursor) → Ordered us → AllUnder g.place us → found ≡ next_like_of (first_key h) c (living us (indicator h)) →
-    Says (sight us g own) (indicator h) (first_key h) (likely (first_key h) (rest_at (sight us g own) (indicator h) (reaches.Base c))) step
+    IsStepOf (sight us g own) (indicator h) (first_key h) (likely (first_key h) (rest_at (sight us g own) (indicator h) (reaches.Base c))) step
 
 -- a step and where it leads
 pub record Steps (own : List Update) (h : Tree) (g : View) (r : Reach) (step : Step) : Type 0 where

@@ -10,32 +10,27 @@ ghost use Rattle.plmachine.specs.Machine.{result_of};
 ghost use Rattle.plsolver.specs.Solver.{IsOf, Stays, latest_view, rest_of, Waits, ReplyFits, IsOver, IsRequestOf, PausesAt, after_done, after_reply, next_after};
 ghost use Rattle.plevent.specs.declared.request.Request.{Request as Requested};
 ghost use Rattle.plsolver.specs.Says.{Says, IsSlice};
+ghost use Rattle.plprogram.specs.Program.{Program as Given};
 
 use crate::progress::{Pause, Progress};
 use crate::solver::Turn;
 use plevent::JournalPlace;
 use plevent::request::{Reply, Request, ThreadEnd};
 use plmachine::machine::{Mode, Outcome, Question, Then};
-use plprogram::program::Program;
 use std::alloc::{AllocError, Global};
 
 impl Progress {
     /// The reply to the request that is asked.
-    pub fn reply(
-        &mut self,
-        program: &Program,
-        place: JournalPlace,
-        reply: Reply,
-    ) -> Result<(), AllocError>
-        requires of { IsOf program.now self.old.machine }
+    pub fn reply(&mut self, place: JournalPlace, reply: Reply) -> Result<(), AllocError>
+        requires of { (P : Given) × IsOf P self.old.machine }
         requires fits { ReplyFits self.old reply }
         requires within { self.old.used ≤ self.old.limit }
-        ensures ok { OnOk result ((v : Views) → TakesOne (Got reply) (rest_of program.now v self.old) self.old.used (rest_of program.now v self.new) self.new.used) }
-        ensures of { IsOf program.now self.new.machine }
+        ensures ok { (P : Given) → IsOf P self.old.machine → OnOk result ((v : Views) → TakesOne (Got reply) (rest_of P v self.old) self.old.used (rest_of P v self.new) self.new.used) }
+        ensures of { (P : Given) → IsOf P self.old.machine → IsOf P self.new.machine }
         ensures latest { latest_view self.new ≡ latest_view self.old }
         ensures places { OnOk result (self.new.places.items ≡ self.old.places.items ++ place ∷ []) }
         ensures limit { self.new.limit ≡ self.old.limit }
-        ensures err { OnErr result (Stays program.now self.old self.new) }
+        ensures err { (P : Given) → IsOf P self.old.machine → OnErr result (Stays P self.old self.new) }
         ensures walks { walks_in self.new.machine.stack ≡ walks_in self.old.machine.stack }
     {
         let Mode::Ask(question) = &self.machine.mode else {
@@ -48,26 +43,26 @@ impl Progress {
     }
 
     /// What is said where the search pauses.
-    pub(crate) fn told(&self, program: &Program, pause: Pause) -> Result<Turn, AllocError>
-        requires of { IsOf program.now self.now.machine }
+    pub(crate) fn told(&self, pause: Pause) -> Result<Turn, AllocError>
+        requires of { (P : Given) × IsOf P self.now.machine }
         requires within { self.now.used ≤ self.now.limit }
-        requires due { PausesAt program.now self.now pause }
-        ensures says { IfOk result (λ turn. Says program.now self.now turn) }
+        requires due { (P : Given) × PausesAt P self.now pause }
+        ensures says { (P : Given) → IsOf P self.now.machine → PausesAt P self.now pause → IfOk result (λ turn. Says P self.now turn) }
         ensures other { IfOk result (λ turn. IsSlice turn → ⊥) }
     {
         match pause {
             Pause::Look => Ok(Turn::Refresh),
-            Pause::Fetch => self.wanted(program),
-            Pause::Await => self.asked(program),
-            Pause::Over => self.ended(program),
+            Pause::Fetch => self.wanted(),
+            Pause::Await => self.asked(),
+            Pause::Over => self.ended(),
         }
     }
 
     /// The request that waits.
-    fn asked(&self, program: &Program) -> Result<Turn, AllocError>
+    fn asked(&self) -> Result<Turn, AllocError>
         requires waits { Waits self.now }
         requires within { self.now.used ≤ self.now.limit }
-        ensures says { IfOk result (λ turn. Says program.now self.now turn) }
+        ensures says { (P : Given) → IfOk result (λ turn. Says P self.now turn) }
         ensures other { IfOk result (λ turn. IsSlice turn → ⊥) }
     {
         let Mode::Ask(question) = &self.machine.mode else {
@@ -78,10 +73,10 @@ impl Progress {
     }
 
     /// The end of the search.
-    fn ended(&self, program: &Program) -> Result<Turn, AllocError>
-        requires over { IsOver program.now self.now }
+    fn ended(&self) -> Result<Turn, AllocError>
+        requires over { (P : Given) × IsOver P self.now }
         requires within { self.now.used ≤ self.now.limit }
-        ensures says { IfOk result (λ turn. Says program.now self.now turn) }
+        ensures says { (P : Given) → IsOver P self.now → IfOk result (λ turn. Says P self.now turn) }
         ensures other { IfOk result (λ turn. IsSlice turn → ⊥) }
     {
         let Mode::Back(outcome) = &self.machine.mode else {

@@ -13,7 +13,7 @@ ghost use Rattle.plsolver.specs.Solver.{IsBack, Stays, Quiet, throws_to, Recover
 use crate::error;
 use crate::progress::Progress;
 use plcells::cell::Cell;
-use pllinks::item::Item;
+use pllinks::item::Portion;
 use pllinks::link::Continuation;
 use plmachine::machine::{Mode, Outcome};
 use plmachine::running::Ready;
@@ -91,7 +91,7 @@ impl Progress {
             Ready::Raises(error) => self.rethrow(error, list),
             Ready::Runs(goal) => {
                 let level = self.machine.stack.level();
-                let made = self.machine.stack.link(Item::Goal(level, goal), list)?;
+                let made = self.machine.stack.link(Portion::Goal(level, goal), list)?;
                 self.machine.stack.recover(made);
                 self.machine.kept.drop_from(level);
                 self.machine.mode = Mode::Visit;

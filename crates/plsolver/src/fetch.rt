@@ -25,7 +25,6 @@ use plevent::ClauseName;
 use plmachine::indicator::indicator_of;
 use plmachine::machine::{Find, Mode, SweepSpot};
 use plmachine::sought::{first_key, head_of};
-use plprogram::program::Program;
 use plstack::frame::Spot;
 use plstore::{Cursor, Found, Query};
 use plviews::{Reach, View};
@@ -33,10 +32,10 @@ use std::alloc::AllocError;
 
 impl Progress {
     /// The query that is due.
-    pub(crate) fn wanted(&self, program: &Program) -> Result<Turn, AllocError>
-        requires of { IsOf program.now self.now.machine }
+    pub(crate) fn wanted(&self) -> Result<Turn, AllocError>
+        requires of { (P : Given) × IsOf P self.now.machine }
         requires fetching { IsFetching self.now }
-        ensures says { IfOk result (λ turn. Says program.now self.now turn) }
+        ensures says { (P : Given) → IsOf P self.now.machine → IfOk result (λ turn. Says P self.now turn) }
         ensures other { IfOk result (λ turn. IsSlice turn → ⊥) }
     {
         let query = match &self.machine.mode {
@@ -139,14 +138,14 @@ impl Progress {
     }
 
     /// What was asked in a view, and found there.
-    pub(crate) fn fetched(&mut self, program: &Program, found: Found) -> Result<(), AllocError>
-        requires of { IsOf program.now self.old.machine }
+    pub(crate) fn fetched(&mut self, found: Found) -> Result<(), AllocError>
+        requires of { (P : Given) × IsOf P self.old.machine }
         requires fits { (g : ℕ) × (q : Asked) × Fetches self.old g q × IsFoundFor q found }
-        ensures ok { OnOk result ((v : Views) → AreOrdered v → (g : ℕ) (q : Asked) → Fetches self.old g q → found ≡ found_of (v g) q → KeepsRest program.now v self.old self.new) }
-        ensures of { IsOf program.now self.new.machine }
+        ensures ok { (P : Given) → IsOf P self.old.machine → OnOk result ((v : Views) → AreOrdered v → (g : ℕ) (q : Asked) → Fetches self.old g q → found ≡ found_of (v g) q → KeepsRest P v self.old self.new) }
+        ensures of { (P : Given) → IsOf P self.old.machine → IsOf P self.new.machine }
         ensures latest { latest_view self.new ≡ latest_view self.old }
         ensures frame { self.new ≡ record self.old { machine = self.new.machine } }
-        ensures err { OnErr result (Stays program.now self.old self.new) }
+        ensures err { (P : Given) → IsOf P self.old.machine → OnErr result (Stays P self.old self.new) }
         ensures asked { OnOk result ((v : Views) → AreOrdered v → (g : ℕ) (q : Asked) → Fetches self.old g q → found ≡ found_of (v g) q → AsksNext v self.old.machine self.new.machine q) }
     {
         let Mode::Find(find) = &self.machine.mode else {
@@ -155,35 +154,35 @@ impl Progress {
         match find {
             Find::First(sought, view) => {
                 let (sought, view) = (*sought, *view);
-                self.found_first(program, sought, view, next_in(found))
+                self.found_first(sought, view, next_in(found))
             }
             Find::Exists(goal, view) => {
                 let (goal, view) = (*goal, *view);
-                self.found_exists(program, goal, view, exists_in(found))
+                self.found_exists(goal, view, exists_in(found))
             }
             Find::All(head, view) => {
                 let (head, view) = (*head, *view);
-                self.found_all(program, head, view, exists_in(found))
+                self.found_all(head, view, exists_in(found))
             }
-            Find::Sweep(_, _) => self.fetched_sweep(program, found),
+            Find::Sweep(_, _) => self.fetched_sweep(found),
         }
     }
 
     /// The same for the erasure of all clauses of a head.
-    fn fetched_sweep(&mut self, program: &Program, found: Found) -> Result<(), AllocError>
-        requires of { IsOf program.now self.old.machine }
+    fn fetched_sweep(&mut self, found: Found) -> Result<(), AllocError>
+        requires of { (P : Given) × IsOf P self.old.machine }
         requires sweeps { IsSweeping self.old }
         requires fits { (g : ℕ) × (q : Asked) × Seeks self.old.machine g q × IsFoundFor q found }
-        ensures ok { OnOk result ((v : Views) → AreOrdered v → (g : ℕ) (q : Asked) → Seeks self.old.machine g q → found ≡ found_of (v g) q → KeepsRest program.now v self.old self.new) }
-        ensures of { IsOf program.now self.new.machine }
+        ensures ok { (P : Given) → IsOf P self.old.machine → OnOk result ((v : Views) → AreOrdered v → (g : ℕ) (q : Asked) → Seeks self.old.machine g q → found ≡ found_of (v g) q → KeepsRest P v self.old self.new) }
+        ensures of { (P : Given) → IsOf P self.old.machine → IsOf P self.new.machine }
         ensures latest { latest_view self.new ≡ latest_view self.old }
         ensures frame { self.new ≡ record self.old { machine = self.new.machine } }
-        ensures err { OnErr result (Stays program.now self.old self.new) }
+        ensures err { (P : Given) → IsOf P self.old.machine → OnErr result (Stays P self.old self.new) }
         ensures asked { OnOk result ((v : Views) → AreOrdered v → (g : ℕ) (q : Asked) → Seeks self.old.machine g q → found ≡ found_of (v g) q → AsksNext v self.old.machine self.new.machine q) }
     {
         let at = self.sweeping();
         match at.spot {
-            SweepSpot::Seek(_) => self.swept_behind(program, next_in(found)),
+            SweepSpot::Seek(_) => self.swept_behind(next_in(found)),
             SweepSpot::At(name, reach) => self.sweep_past(name, reach, &clause_in(found)),
         }
     }

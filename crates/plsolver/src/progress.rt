@@ -17,7 +17,7 @@ use crate::start::start;
 use plcells::cell::Cell;
 use plcode::op::Step;
 use plevent::JournalPlace;
-use pllinks::item::Run;
+use pllinks::item::ClauseGoals;
 use pllinks::level::Level;
 use pllinks::link::Continuation;
 use plmachine::machine::Machine;
@@ -42,7 +42,7 @@ pub enum Selected {
     /// A conjunction of a clause's body: the list in which its two goals stand in its place.
     Both(Continuation),
     /// Any other goal of a clause's body: the run that begins with it, its step, and the list behind it.
-    Step(Run, Step, Continuation),
+    Step(ClauseGoals, Step, Continuation),
     /// A goal that is a term: its cut level, its value, and the list behind it.
     Goal(Level, Cell, Continuation),
 }
@@ -109,7 +109,7 @@ impl Progress {
             let due = self.settle(program)?;
             let selected = match due {
                 Due::Goal(selected) => selected,
-                Due::Paused(pause) => return self.told(program, pause),
+                Due::Paused(pause) => return self.told(pause),
             };
             // (a type that stands deep in a variable's is known to the borrow checker's plan of a loop where a variable has it)
             if let Selected::Goal(_, value, _) = &selected {
@@ -205,7 +205,7 @@ impl Progress {
         ensures walks { Onward 0 (activations self.old.machine) (in_cases self.new.machine.stack) }
         ensures settles { IfOk result (λ due. SettlesTo program.now self.old self.new) }
     {
-        if let Some(pause) = self.find(program)? {
+        if let Some(pause) = self.find()? {
             return Ok(Due::Paused(pause));
         }
         self.go_quietly(program)

@@ -110,42 +110,37 @@ impl Solver {
     }
 
     /// The reply to the request that is asked. A refused growth leaves the solver as it was.
-    pub fn reply(
-        &mut self,
-        program: &Program,
-        place: JournalPlace,
-        reply: Reply,
-    ) -> Result<(), AllocError>
-        requires of { IsOf program.now self.old.machine }
+    pub fn reply(&mut self, place: JournalPlace, reply: Reply) -> Result<(), AllocError>
+        requires of { (P : Given) × IsOf P self.old.machine }
         requires fits { ReplyFits self.old reply }
         requires within { self.old.used ≤ self.old.limit }
-        ensures ok { OnOk result ((v : Views) → TakesOne (Got reply) (rest_of program.now v self.old) self.old.used (rest_of program.now v self.new) self.new.used) }
+        ensures ok { (P : Given) → IsOf P self.old.machine → OnOk result ((v : Views) → TakesOne (Got reply) (rest_of P v self.old) self.old.used (rest_of P v self.new) self.new.used) }
         ensures places { OnOk result (self.new.places.items ≡ self.old.places.items ++ place ∷ []) }
-        ensures of { IsOf program.now self.new.machine }
+        ensures of { (P : Given) → IsOf P self.old.machine → IsOf P self.new.machine }
         ensures latest { latest_view self.new ≡ latest_view self.old }
         ensures limit { self.new.limit ≡ self.old.limit }
-        ensures err { OnErr result (Stays program.now self.old self.new) }
+        ensures err { (P : Given) → IsOf P self.old.machine → OnErr result (Stays P self.old self.new) }
         ensures walks { walks_in self.new.machine.stack ≡ walks_in self.old.machine.stack }
     {
-        self.progress.reply(program, place, reply)
+        self.progress.reply(place, reply)
     }
 
     /// The place of the view that the look-up which waits has from now on, or that on which a transaction or a snapshot begins. A refused growth
     /// leaves the solver as it was.
-    pub fn refreshed(&mut self, program: &Program, g: JournalPlace) -> Result<(), AllocError>
-        requires of { IsOf program.now self.old.machine }
+    pub fn refreshed(&mut self, g: JournalPlace) -> Result<(), AllocError>
+        requires of { (P : Given) × IsOf P self.old.machine }
         requires waits { WaitsForView self.old }
         requires latest { latest_view self.old ≤ g }
-        ensures ok { OnOk result ((v : Views) → TakesOne (Seen g (v g)) (rest_of program.now v self.old) self.old.used (rest_of program.now v self.new) self.new.used) }
+        ensures ok { (P : Given) → IsOf P self.old.machine → OnOk result ((v : Views) → TakesOne (Seen g (v g)) (rest_of P v self.old) self.old.used (rest_of P v self.new) self.new.used) }
         ensures places { OnOk result (self.new.places.items ≡ self.old.places.items ++ g ∷ []) }
-        ensures of { IsOf program.now self.new.machine }
+        ensures of { (P : Given) → IsOf P self.old.machine → IsOf P self.new.machine }
         ensures latest { OnOk result (latest_view self.new ≡ g) }
         ensures limit { self.new.limit ≡ self.old.limit }
-        ensures err { OnErr result (Stays program.now self.old self.new) }
+        ensures err { (P : Given) → IsOf P self.old.machine → OnErr result (Stays P self.old self.new) }
         ensures walks { walks_in self.new.machine.stack ≡ walks_in self.old.machine.stack }
         ensures seeks { OnOk result (SeeksAnew self.new.machine.mode) }
     {
-        self.progress.refreshed(program, g)
+        self.progress.refreshed(g)
     }
 
     /// The place of the view in which something is asked.
@@ -159,19 +154,19 @@ impl Solver {
     }
 
     /// What was asked in a view, and found there. A refused growth leaves the solver as it was.
-    pub fn fetched(&mut self, program: &Program, found: Found) -> Result<(), AllocError>
-        requires of { IsOf program.now self.old.machine }
+    pub fn fetched(&mut self, found: Found) -> Result<(), AllocError>
+        requires of { (P : Given) × IsOf P self.old.machine }
         requires fits { (g : ℕ) × (q : Query) × Fetches self.old g q × IsFoundFor q found }
         requires within { self.old.used ≤ self.old.limit }
-        ensures ok { OnOk result ((v : Views) → AreOrdered v → (g : ℕ) (q : Query) → Fetches self.old g q → found ≡ found_of (v g) q → Goes self.old.limit (rest_of program.now v self.old) self.old.used (rest_of program.now v self.new) self.new.used) }
-        ensures of { IsOf program.now self.new.machine }
+        ensures ok { (P : Given) → IsOf P self.old.machine → OnOk result ((v : Views) → AreOrdered v → (g : ℕ) (q : Query) → Fetches self.old g q → found ≡ found_of (v g) q → Goes self.old.limit (rest_of P v self.old) self.old.used (rest_of P v self.new) self.new.used) }
+        ensures of { (P : Given) → IsOf P self.old.machine → IsOf P self.new.machine }
         ensures latest { latest_view self.new ≡ latest_view self.old }
         ensures used { self.new.used ≡ self.old.used }
         ensures places { self.new.places.items ≡ self.old.places.items }
         ensures limit { self.new.limit ≡ self.old.limit }
-        ensures err { OnErr result (Stays program.now self.old self.new) }
+        ensures err { (P : Given) → IsOf P self.old.machine → OnErr result (Stays P self.old self.new) }
         ensures asked { OnOk result ((v : Views) → AreOrdered v → (g : ℕ) (q : Query) → Fetches self.old g q → found ≡ found_of (v g) q → AsksNext v self.old.machine self.new.machine q) }
     {
-        self.progress.fetched(program, found)
+        self.progress.fetched(found)
     }
 }

@@ -9,7 +9,7 @@ ghost use Rattle.plsolver.specs.Solver.{IsStart, IsEmpty, Starts, StartsGoal};
 use plcode::program::ProgramCode;
 use plcollect::collection::Collection;
 use plenv::env::Environment;
-use pllinks::item::Item;
+use pllinks::item::Portion;
 use pllinks::level::Level;
 use pllinks::link::Continuation;
 use pllinks::list::ListId;
@@ -92,7 +92,7 @@ fn start_goal(
     let copy = goal.copied(alloc)?;
     let once = once(alloc, copy)?;
     let v = stack.put_copy(alloc, &once)?;
-    stack.link(Item::Goal(Level::BOTTOM, v), list)
+    stack.link(Portion::Goal(Level::BOTTOM, v), list)
 }
 
 /// A goal, once.

@@ -35,7 +35,6 @@ use plclause::clause::Clause;
 use plevent::{ClauseName, Update};
 use plmachine::indicator::indicator_of;
 use plmachine::machine::{Find, Mode, Sweep, SweepSpot};
-use plprogram::program::Program;
 use plstack::frame::Use;
 use pltx::OwnCursor;
 use plviews::{Reach, Step, View};
@@ -65,18 +64,17 @@ impl Progress {
     /// Whether the journal has the procedure of a head was asked: its clauses are looked through, or it is declared.
     pub(crate) fn found_all(
         &mut self,
-        program: &Program,
         head: Cell,
         view: View,
         exists: bool,
     ) -> Result<(), AllocError>
-        requires of { IsOf program.now self.old.machine }
+        requires of { (P : Given) × IsOf P self.old.machine }
         requires finds { self.old.machine.mode ≡ Finds (AllOf head view) }
-        ensures ok { OnOk result ((v : Views) → AreOrdered v → let p = indicator (value self.old.machine.stack.env.heap head) in NoneNames self.old.machine.layer.own.updates view p → exists ≡ exists_of (v view.place) p → KeepsRest program.now v self.old self.new) }
-        ensures of { IsOf program.now self.new.machine }
+        ensures ok { (P : Given) → IsOf P self.old.machine → OnOk result ((v : Views) → AreOrdered v → let p = indicator (value self.old.machine.stack.env.heap head) in NoneNames self.old.machine.layer.own.updates view p → exists ≡ exists_of (v view.place) p → KeepsRest P v self.old self.new) }
+        ensures of { (P : Given) → IsOf P self.old.machine → IsOf P self.new.machine }
         ensures latest { latest_view self.new ≡ latest_view self.old }
         ensures frame { self.new ≡ record self.old { machine = self.new.machine } }
-        ensures err { OnErr result (Stays program.now self.old self.new) }
+        ensures err { (P : Given) → IsOf P self.old.machine → OnErr result (Stays P self.old self.new) }
         ensures asked { OnOk result ((v : Views) → FindAsked v (AllOf head view) self.old.machine self.new.machine (ExistsQuery (indicator (value self.old.machine.stack.env.heap head)))) }
     {
         if exists {
@@ -84,7 +82,7 @@ impl Progress {
             return Ok(());
         }
         let p = indicator_of(self.machine.alloc, self.machine.stack.env().heap(), &head)?;
-        self.machine.declare_one(program, p)
+        self.machine.declare_one(p)
     }
 
     /// The clauses of a head are looked through from the first on.
@@ -100,12 +98,12 @@ impl Progress {
     }
 
     /// The clauses of a head are looked through as far as own updates tell; behind the last one the erasures are made.
-    pub(crate) fn sweep(&mut self, program: &Program) -> Result<Option<Pause>, AllocError>
-        requires of { IsOf program.now self.old.machine }
+    pub(crate) fn sweep(&mut self) -> Result<Option<Pause>, AllocError>
+        requires of { (P : Given) × IsOf P self.old.machine }
         requires sweeps { IsSweeping self.old }
-        ensures keeps { Keeps program.now self.old self.new }
+        ensures keeps { (P : Given) → IsOf P self.old.machine → Keeps P self.old self.new }
         ensures plain { IfOk result (λ o. IfNone o (IsPlain self.new.machine.mode)) }
-        ensures due { IfOk result (λ o. IfSome o (λ pause. PausesAt program.now self.new pause)) }
+        ensures due { (P : Given) → IsOf P self.old.machine → IfOk result (λ o. IfSome o (λ pause. PausesAt P self.new pause)) }
         ensures walks { Onward 0 (activations self.old.machine) (in_cases self.new.machine.stack) }
         ensures asks { IfOk result (λ o. Onward 0 (activations self.old.machine) (activations self.new.machine)) }
     {
@@ -114,7 +112,7 @@ impl Progress {
                 Swept::On => {}
                 Swept::Asks => return Ok(Some(Pause::Fetch)),
                 Swept::Over => {
-                    self.publish_swept(program)?;
+                    self.publish_swept()?;
                     return Ok(None);
                 }
             }
@@ -189,18 +187,14 @@ impl Progress {
     }
 
     /// The next clause was sought in the journal: it is looked at next, or the erasures are made.
-    pub(crate) fn swept_behind(
-        &mut self,
-        program: &Program,
-        found: Option<ClauseName>,
-    ) -> Result<(), AllocError>
-        requires of { IsOf program.now self.old.machine }
+    pub(crate) fn swept_behind(&mut self, found: Option<ClauseName>) -> Result<(), AllocError>
+        requires of { (P : Given) × IsOf P self.old.machine }
         requires sweeps { (c : OfCell) × (g : OfView) × (cur : OfCursor) × Sweeping self.old c g (SeekOf (BaseOf cur)) }
-        ensures ok { OnOk result ((v : Views) (c : OfCell) (g : OfView) (cur : OfCursor) → AreOrdered v → Sweeping self.old c g (SeekOf (BaseOf cur)) → let h = value self.old.machine.stack.env.heap c in found ≡ next_like_of (first_key h) cur (living (v g.place) (indicator h)) → KeepsRest program.now v self.old self.new) }
-        ensures of { IsOf program.now self.new.machine }
+        ensures ok { (P : Given) → IsOf P self.old.machine → OnOk result ((v : Views) (c : OfCell) (g : OfView) (cur : OfCursor) → AreOrdered v → Sweeping self.old c g (SeekOf (BaseOf cur)) → let h = value self.old.machine.stack.env.heap c in found ≡ next_like_of (first_key h) cur (living (v g.place) (indicator h)) → KeepsRest P v self.old self.new) }
+        ensures of { (P : Given) → IsOf P self.old.machine → IsOf P self.new.machine }
         ensures latest { latest_view self.new ≡ latest_view self.old }
         ensures frame { self.new ≡ record self.old { machine = self.new.machine } }
-        ensures err { OnErr result (Stays program.now self.old self.new) }
+        ensures err { (P : Given) → IsOf P self.old.machine → OnErr result (Stays P self.old self.new) }
         ensures asked { OnOk result ((v : Views) (c : OfCell) (w : OfSweep) (cur : OfCursor) → AreOrdered v → self.old.machine.mode ≡ Finds (SweepOf c w) → w.spot ≡ SeekOf (BaseOf cur) → let h = value self.old.machine.stack.env.heap c in found ≡ next_like_of (first_key h) cur (living (v w.view.place) (indicator h)) → FindAsked v (SweepOf c w) self.old.machine self.new.machine (like h cur)) }
     {
         let at = self.sweeping();
@@ -210,7 +204,7 @@ impl Progress {
                 self.sweep_at(spot);
                 Ok(())
             }
-            None => self.publish_swept(program),
+            None => self.publish_swept(),
         }
     }
 
@@ -294,19 +288,19 @@ impl Progress {
     }
 
     /// No clause is left: the erasures are made.
-    fn publish_swept(&mut self, program: &Program) -> Result<(), AllocError>
-        requires of { IsOf program.now self.old.machine }
+    fn publish_swept(&mut self) -> Result<(), AllocError>
+        requires of { (P : Given) × IsOf P self.old.machine }
         requires sweeps { IsSweeping self.old }
-        ensures ok { OnOk result (Publishes program.now self.old self.new) }
-        ensures of { IsOf program.now self.new.machine }
+        ensures ok { (P : Given) → IsOf P self.old.machine → OnOk result (Publishes P self.old self.new) }
+        ensures of { (P : Given) → IsOf P self.old.machine → IsOf P self.new.machine }
         ensures latest { latest_view self.new ≡ latest_view self.old }
         ensures frame { self.new ≡ record self.old { machine = self.new.machine } }
-        ensures err { OnErr result (Stays program.now self.old self.new) }
+        ensures err { (P : Given) → IsOf P self.old.machine → OnErr result (Stays P self.old self.new) }
         ensures walks { EndsWalks self.old.machine.stack self.new.machine.stack }
     {
         let updates = self.erasures()?;
         let rest = self.machine.stack.visited();
-        self.machine.publish(program, updates, rest)
+        self.machine.publish(updates, rest)
     }
 
     /// The erasures of the sweep in hand, which keeps them.

@@ -20,19 +20,18 @@ use plevent::{Batch, ClauseName};
 use pllinks::level::Level;
 use pllinks::link::Continuation;
 use plmachine::machine::{Mode, Outcome, Question, Then};
-use plprogram::program::Program;
 use pltx::Ended;
 use std::alloc::AllocError;
 
 impl Progress {
     /// One turn at what is asked: a clause is erased of what is open; all else is due.
     #[tactic(auto, using(crate::proofs::Ending::ends_same, crate::proofs::Ending::ends_refl))]
-    pub(crate) fn wait(&mut self, program: &Program) -> Result<Option<Pause>, AllocError>
+    pub(crate) fn wait(&mut self) -> Result<Option<Pause>, AllocError>
         requires asks { (q : Asked) × (self.old.machine.mode ≡ Asks q) }
-        requires of { IsOf program.now self.old.machine }
-        ensures on { IfOk result (λ o. IfNone o (Quiet program.now self.old self.new)) }
-        ensures due { IfOk result (λ o. IfSome o (λ pause. PausesAt program.now self.new pause × Stays program.now self.old self.new)) }
-        ensures err { OnErr result (Stays program.now self.old self.new) }
+        requires of { (P : Given) × IsOf P self.old.machine }
+        ensures on { (P : Given) → IsOf P self.old.machine → IfOk result (λ o. IfNone o (Quiet P self.old self.new)) }
+        ensures due { (P : Given) → IsOf P self.old.machine → IfOk result (λ o. IfSome o (λ pause. PausesAt P self.new pause × Stays P self.old self.new)) }
+        ensures err { (P : Given) → IsOf P self.old.machine → OnErr result (Stays P self.old self.new) }
         ensures walks { EndsWalks self.old.machine.stack self.new.machine.stack }
     {
         let Mode::Ask(question) = &self.machine.mode else {
@@ -47,21 +46,21 @@ impl Progress {
         if !self.machine.layer.is_open() {
             return Ok(Some(Pause::Await));
         }
-        self.erase(program, name)?;
+        self.erase(name)?;
         Ok(None)
     }
 
     /// A clause is erased of what is open before the visited list.
     #[tactic(auto, using(crate::proofs::Ending::ends_same, crate::proofs::Ending::ends_refl))]
-    fn erase(&mut self, program: &Program, name: ClauseName) -> Result<(), AllocError>
+    fn erase(&mut self, name: ClauseName) -> Result<(), AllocError>
         requires erases { ErasesOwn self.old name }
-        requires of { IsOf program.now self.old.machine }
-        ensures ok { OnOk result (Quiet program.now self.old self.new) }
-        ensures err { OnErr result (Stays program.now self.old self.new) }
+        requires of { (P : Given) × IsOf P self.old.machine }
+        ensures ok { (P : Given) → IsOf P self.old.machine → OnOk result (Quiet P self.old self.new) }
+        ensures err { (P : Given) → IsOf P self.old.machine → OnErr result (Stays P self.old self.new) }
         ensures walks { EndsWalks self.old.machine.stack self.new.machine.stack }
     {
         let rest = self.machine.stack.visited();
-        self.machine.erase(program, name, rest)
+        self.machine.erase(name, rest)
     }
 
     /// The marker at which what was opened last ends with success: the choices down to a level are given up, and the updates of the outermost

@@ -39,8 +39,8 @@ impl Progress {
         ensures walks { Further self.old.machine.stack self.new.machine.stack }
     {
         match &self.machine.mode {
-            Mode::Visit => self.pass(program),
-            Mode::Ask(_) => Ok(paused(self.wait(program)?)),
+            Mode::Visit => self.pass(),
+            Mode::Ask(_) => Ok(paused(self.wait()?)),
             Mode::Find(_) => unreachable!(),
             Mode::Back(_) => Ok(paused(self.back(program)?)),
         }
@@ -48,13 +48,13 @@ impl Progress {
 
     /// One turn at a list.
     #[tactic(auto, using(crate::proofs::Ending::ends_same, crate::proofs::Ending::ends_refl))]
-    fn pass(&mut self, program: &Program) -> Result<Option<Due>, AllocError>
+    fn pass(&mut self) -> Result<Option<Due>, AllocError>
         requires visits { self.old.machine.mode ≡ Mode.Visit }
         requires within { self.old.used ≤ self.old.limit }
-        requires of { IsOf program.now self.old.machine }
-        ensures on { IfOk result (λ o. IfNone o (Quiet program.now self.old self.new)) }
-        ensures due { IfOk result (λ o. IfSome o (λ due. Settled program.now self.new due × Stays program.now self.old self.new)) }
-        ensures err { OnErr result (Stays program.now self.old self.new) }
+        requires of { (P : Given) × IsOf P self.old.machine }
+        ensures on { (P : Given) → IsOf P self.old.machine → IfOk result (λ o. IfNone o (Quiet P self.old self.new)) }
+        ensures due { (P : Given) → IsOf P self.old.machine → IfOk result (λ o. IfSome o (λ due. Settled P self.new due × Stays P self.old self.new)) }
+        ensures err { (P : Given) → IsOf P self.old.machine → OnErr result (Stays P self.old self.new) }
         ensures walks { EndsWalks self.old.machine.stack self.new.machine.stack }
     {
         let selected = match self.machine.stack.first() {

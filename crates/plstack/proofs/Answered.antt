@@ -5,8 +5,8 @@ use Rattle.plcells.specs.Store.{AreValues}
 use Rattle.plsearch.specs.Types.{Choice}
 use Rattle.plsearch.specs.Lists.{bind_goals}
 use Rattle.plsearch.specs.Rows.{solved}
-use Rattle.plgenerator.specs.declared.turn.Turn.{Turn}
-use Rattle.plgenerator.specs.Answers.{left, IsTurn}
+use Rattle.plgenerator.specs.declared.turn.Remaining.{Remaining}
+use Rattle.plgenerator.specs.Answers.{left, IsRemaining}
 use Rattle.plgenerator.proofs.Staying.{left_stays, turn_stays}
 use Rattle.plenv.specs.Env.{Env, IsEnv, cut, renamed, IsWithin}
 use Rattle.plenv.specs.Changes.{Keeps, Stays}
@@ -38,7 +38,7 @@ use Rattle.plstack.proofs.Rewinding.{without, without-stack, now, kept-then, fra
 use Rattle.plstack.proofs.Stacks.{visiting, opened-cases, opened-state, counted, counted-cases}
 
 -- the first answer was taken
-module _ (s : State) (d : ℕ) (is : IsStack s d) (vs : List Cell) (fit : AreValues s.env.heap vs) (turn : Turn) (e : Env) (env : IsEnv e) (rest : Option Turn) (t : TakesAnswer s.env e vs turn rest) where
+module _ (s : State) (d : ℕ) (is : IsStack s d) (vs : List Cell) (fit : AreValues s.env.heap vs) (turn : Remaining) (e : Env) (env : IsEnv e) (rest : Option Remaining) (t : TakesAnswer s.env e vs turn rest) where
   before-stack : IsStack (record s { env = t.before }) d
   before-stack = stack-env s d t.before t.stays.extends t.env is
 
@@ -92,7 +92,7 @@ module _ (s : State) (d : ℕ) (is : IsStack s d) (vs : List Cell) (fit : AreVal
       }
 
     -- others are left
-    module _ (next : Turn) (some : rest ≡ Some next) (p : Point) (l_is : p.list ≡ l) (count : ℕ) (there : kept_values s.saved p (resumes.Answers (record { count = count; turn = turn })) ≡ vs) (same : cut p.marks.env s.env ≡ s.env)
+    module _ (next : Remaining) (some : rest ≡ Some next) (p : Point) (l_is : p.list ≡ l) (count : ℕ) (there : kept_values s.saved p (resumes.Answers (record { count = count; turn = turn })) ≡ vs) (same : cut p.marks.env s.env ≡ s.env)
         (frame : IsOpen (goals_in s) s.env s.links s.saved p (resumes.Answers (record { count = count; turn = turn })) (reverse s.frames)) where
       abbrev r : Resume
       r = resumes.Answers (record { count = count; turn = turn })
@@ -106,7 +106,7 @@ module _ (s : State) (d : ℕ) (is : IsStack s d) (vs : List Cell) (fit : AreVal
       kept-frame : IsOpen (goals_in s) e s.links s.saved p r (reverse s.frames)
       kept-frame = (frames-grown (goals_in s) s.env e s.links s.links [] s.saved (sym (append-nil s.links)) keeps-all env.heap.names (Open p r ∷ reverse s.frames) (frame, is.0.frames)).0
 
-      turn-then : IsTurn (renamed s.env e.heap.names).heap vs next
+      turn-then : IsRemaining (renamed s.env e.heap.names).heap vs next
       turn-then = turn_stays s.env.heap (renamed s.env e.heap.names).heap (stays s.env e.heap.names is.0.env env.heap.names keeps-all.names).values vs fit next (rw some at t.turns)
 
       next-frame : IsOpen (goals_in s) e s.links s.saved p r' (reverse s.frames)
@@ -118,7 +118,7 @@ module _ (s : State) (d : ℕ) (is : IsStack s d) (vs : List Cell) (fit : AreVal
         older = kept-frame.older;
         items = kept-frame.items;
         fits = kept-frame.fits;
-        resume = (kept-frame.resume.0, subst (λ (x : Env). IsTurn x.heap (kept_values s.saved p r) next) (sym then-cut) (subst (λ ws. IsTurn (renamed s.env e.heap.names).heap ws next) (sym there) turn-then));
+        resume = (kept-frame.resume.0, subst (λ (x : Env). IsRemaining x.heap (kept_values s.saved p r) next) (sym then-cut) (subst (λ ws. IsRemaining (renamed s.env e.heap.names).heap ws next) (sym there) turn-then));
       }
 
       module _ (frames : List Frame) (pushed : frames ≡ s.frames ++ Open p (resumes.Answers (record { count = count; turn = next })) ∷ []) where
@@ -140,7 +140,7 @@ module _ (s : State) (d : ℕ) (is : IsStack s d) (vs : List Cell) (fit : AreVal
         }
 
 -- none of the answers fits
-module _ (s : State) (d : ℕ) (is : IsStack s d) (vs : List Cell) (turn : Turn) (e : Env) (env : IsEnv e) (t : TakesNone s.env e vs turn) where
+module _ (s : State) (d : ℕ) (is : IsStack s d) (vs : List Cell) (turn : Remaining) (e : Env) (env : IsEnv e) (t : TakesNone s.env e vs turn) where
   pub none-stack : IsStack (record s { env = e }) d
   none-stack = stack-env s d e t.stays.extends env is
 
@@ -158,7 +158,7 @@ module _ (s : State) (d : ℕ) (is : IsStack s d) (e : Env) (env : IsEnv e) (y :
       record { cases = x.cases; place = ap₂ (λ gs n. record { goals = gs; variables = n }) x.visited y.count }
 
 -- before a call all was marked
-module _ (s t new : State) (x : Extends s t) (count : t.env.count ≡ s.env.count) (db : Database) (vs : List Cell) (fit : AreValues s.env.heap vs) (l : Continuation) (i : IsList s l) (turn : Turn) where
+module _ (s t new : State) (x : Extends s t) (count : t.env.count ≡ s.env.count) (db : Database) (vs : List Cell) (fit : AreValues s.env.heap vs) (l : Continuation) (i : IsList s l) (turn : Remaining) where
   marked-places : answers_left s.env vs (goals_of s l) turn ≡ answers_left t.env vs (goals_of t l) turn
   marked-places =
       ap (λ n. filter_map (solved (goals_of s l) n) (left s.env.heap vs turn)) (sym count)
@@ -170,12 +170,12 @@ module _ (s t new : State) (x : Extends s t) (count : t.env.count ≡ s.env.coun
   pub unanswered_marked : Unanswered db t new vs l turn → Unanswered db s new vs l turn
   unanswered_marked a = record { none = marked-places ∙ a.none; cases = a.cases ∙ x.cases db }
 
-pub answered_settled : (db : Database) (s t new : State) (vs : List Cell) (l : Continuation) (turn : Turn) → Answered db s t vs l turn → Settles t new → Answered db s new vs l turn
+pub answered_settled : (db : Database) (s t new : State) (vs : List Cell) (l : Continuation) (turn : Remaining) → Answered db s t vs l turn → Settles t new → Answered db s new vs l turn
 answered_settled db s t new vs l turn a y = record { others = a.others; places = a.places ∙ ap (λ p. p ∷ a.others) (sym y.place); cases = y.cases db ∙ a.cases }
 
 -- a call that is opened: whatever its first answer leaves
-module _ (s : State) (d : ℕ) (is : IsStack s d) (p : Point) (m : IsMarked s p.marks) (i : IsList s p.list) (f : IsFit s p.list) (vs : List Cell) (fit : AreValues s.env.heap vs) (turn : Turn) (turns : IsTurn s.env.heap vs turn)
-    (e : Env) (env : IsEnv e) (rest : Option Turn) (t : TakesAnswer s.env e vs turn rest) (frames : List Frame) (pushes : PushesAnswers p (length vs) rest s.frames frames) where
+module _ (s : State) (d : ℕ) (is : IsStack s d) (p : Point) (m : IsMarked s p.marks) (i : IsList s p.list) (f : IsFit s p.list) (vs : List Cell) (fit : AreValues s.env.heap vs) (turn : Remaining) (turns : IsRemaining s.env.heap vs turn)
+    (e : Env) (env : IsEnv e) (rest : Option Remaining) (t : TakesAnswer s.env e vs turn rest) (frames : List Frame) (pushes : PushesAnswers p (length vs) rest s.frames frames) where
   abbrev kept : State
   kept = with_values s d is vs
 
@@ -191,7 +191,7 @@ module _ (s : State) (d : ℕ) (is : IsStack s d) (p : Point) (m : IsMarked s p.
   abbrev c : Answers
   c = record { count = length vs; turn = turn }
 
-  both : (o : Option Turn) → rest ≡ o → PushesAnswers p (length vs) o s.frames frames → IsStack called (d + 1) × ((db : Database) → Answered db kept called vs p.list turn)
+  both : (o : Option Remaining) → rest ≡ o → PushesAnswers p (length vs) o s.frames frames → IsStack called (d + 1) × ((db : Database) → Answered db kept called vs p.list turn)
   both None none up = (
     last-stack kept d kept-stack vs fit turn e env rest t p.list list-kept f none frames up,
     last-answered kept d kept-stack vs fit turn e env rest t p.list list-kept f none frames up,
@@ -230,27 +230,27 @@ module _ (s : State) (d : ℕ) (is : IsStack s d) (below : List Frame) (p : Poin
   the-frame : IsOpen (goals_in s) at.env at.links at.saved p (resumes.Answers a) (reverse below)
   the-frame = frame-then s d is below p (resumes.Answers a) popped
 
-  the-resume : AreValues at.env.heap vs × IsTurn at.env.heap vs a.turn
+  the-resume : AreValues at.env.heap vs × IsRemaining at.env.heap vs a.turn
   the-resume =
       let q = kept-then s d is below p (resumes.Answers a) popped in
-      let f : AreValues at.env.heap (kept_values at.saved p (resumes.Answers a)) × IsTurn at.env.heap (kept_values at.saved p (resumes.Answers a)) a.turn = subst (λ (x : Env). AreValues x.heap (kept_values at.saved p (resumes.Answers a)) × IsTurn x.heap (kept_values at.saved p (resumes.Answers a)) a.turn) (now s d is below p (resumes.Answers a) popped) the-frame.resume in
-      subst (λ ws. AreValues at.env.heap ws × IsTurn at.env.heap ws a.turn) q f
+      let f : AreValues at.env.heap (kept_values at.saved p (resumes.Answers a)) × IsRemaining at.env.heap (kept_values at.saved p (resumes.Answers a)) a.turn = subst (λ (x : Env). AreValues x.heap (kept_values at.saved p (resumes.Answers a)) × IsRemaining x.heap (kept_values at.saved p (resumes.Answers a)) a.turn) (now s d is below p (resumes.Answers a) popped) the-frame.resume in
+      subst (λ ws. AreValues at.env.heap ws × IsRemaining at.env.heap ws a.turn) q f
 
   pub values-again : AreValues at.env.heap vs
   values-again = the-resume.0
 
-  pub turn-again : IsTurn at.env.heap vs a.turn
+  pub turn-again : IsRemaining at.env.heap vs a.turn
   turn-again = the-resume.1
 
   was : (db : Database) → cases_of db s ≡ Choice (answers_left at.env vs (goals_of at p.list) a.turn) ∷ cases_of db at
   was db = was-open s d is below p (resumes.Answers a) popped db
 
   module _ (e : Env) (env : IsEnv e) where
-    module _ (rest : Option Turn) (t : TakesAnswer at.env e vs a.turn rest) (frames : List Frame) (pushes : PushesAnswers p a.count rest below frames) where
+    module _ (rest : Option Remaining) (t : TakesAnswer at.env e vs a.turn rest) (frames : List Frame) (pushes : PushesAnswers p a.count rest below frames) where
       abbrev again : State
       again = record { basis = s.basis; env = e; links = at.links; saved = at.saved; frames = frames; goals = p.list }
 
-      both-again : (o : Option Turn) → rest ≡ o → PushesAnswers p a.count o below frames → IsStack again (d - 1 + 1) × ((db : Database) → Answered db at again vs p.list a.turn)
+      both-again : (o : Option Remaining) → rest ≡ o → PushesAnswers p a.count o below frames → IsStack again (d - 1 + 1) × ((db : Database) → Answered db at again vs p.list a.turn)
       both-again None none up = (
         last-stack at (d - 1) at-stack vs values-again a.turn e env rest t p.list (list-then s d is below p (resumes.Answers a) popped) the-frame.fits none frames up,
         last-answered at (d - 1) at-stack vs values-again a.turn e env rest t p.list (list-then s d is below p (resumes.Answers a) popped) the-frame.fits none frames up,

@@ -18,7 +18,7 @@ use Rattle.plenv.proofs.Rows.{row-tree}
 use Rattle.plhead.proofs.Trees.{row-spread, tree-names}
 use Rattle.plexpression.specs.Nodes.{IsNode, IsPair as IsPairAt}
 use Rattle.plexpression.specs.declared.pair.Pair.{Pair}
-use Rattle.pllinks.specs.declared.item.Run.{Run}
+use Rattle.pllinks.specs.declared.item.ClauseGoals.{ClauseGoals}
 use Rattle.plstack.specs.State.{State, IsState}
 use Rattle.plstack.specs.Arguments.{IsArgument, IsPair, KeepsArguments}
 
@@ -27,7 +27,7 @@ module _ (s : State) (is : IsState s) (laid : IsLaid s.basis.code.text.names s.b
   pub laid-now : IsLaid s.env.heap.names nodes
   laid-now = subst (IsLaid s.env.heap.names) (sym same) (IsLaid-names s.basis.code.text.names s.env.heap.names s.basis.code.text.nodes is.names is.env.heap.names laid)
 
-  module _ (r : Run) (at : ℕ) (t : Tree) (is_one : IsArgument s r at t) where
+  module _ (r : ClauseGoals) (at : ℕ) (t : Tree) (is_one : IsArgument s r at t) where
     the-row : IsRow s.env.heap.names s.basis.code.text.nodes at 1 (t ∷ [])
     the-row = IsRow-more s.basis.code.text.names s.env.heap.names s.basis.code.text.nodes s.basis.code.text.nodes at 1 (t ∷ []) laid is.names (Grows-refl s.basis.code.text.nodes) is_one.stand
 
@@ -54,7 +54,7 @@ module _ (s : State) (is : IsState s) (laid : IsLaid s.basis.code.text.names s.b
     pub one-node : IsNode s.env nodes r.base at
     one-node = record { laid = laid-now; within = one-within; whole = one-whole; covers = one-covers }
 
-  part : (r : Run) (at width : ℕ) → IsNode s.env nodes r.base at → AllBelow width (tree_at s.env.heap.names nodes at) → r.base + width ≤ r.«end» → r.«end» ≤ length s.env.slots → IsArgument s r at (tree_at s.env.heap.names nodes at)
+  part : (r : ClauseGoals) (at width : ℕ) → IsNode s.env nodes r.base at → AllBelow width (tree_at s.env.heap.names nodes at) → r.base + width ≤ r.«end» → r.«end» ≤ length s.env.slots → IsArgument s r at (tree_at s.env.heap.names nodes at)
   part r at width node below own slots =
       let within : at + 1 ≤ length s.basis.code.text.nodes = omega (arith, node.within, ap length same) in
       let named = tree-names s.basis.code.text.names s.env.heap.names s.basis.code.text.nodes is.names laid at in
@@ -73,7 +73,7 @@ module _ (s : State) (is : IsState s) (laid : IsLaid s.basis.code.text.names s.b
       }
 
   -- a compound of two arguments, or another term
-  module _ (r : Run) (at : ℕ) (t : Tree) (is_one : IsArgument s r at t) where
+  module _ (r : ClauseGoals) (at : ℕ) (t : Tree) (is_one : IsArgument s r at t) where
     pub pair-found : (p : Pair) → IsPairAt s.env nodes r.base at p → IsPair s r t p
     pair-found p q =
         let name = functor_name s.env.heap.names p.functor in

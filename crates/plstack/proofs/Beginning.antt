@@ -15,9 +15,9 @@ use Rattle.plcode.proofs.Converted.{selects_converted, runs_converted}
 use Rattle.plcode.proofs.Bound.{form_bound, bound_form}
 use Rattle.plenv.specs.Env.{over}
 use Rattle.plenv.specs.Rows.{AllBelowEach}
-use Rattle.pllinks.specs.declared.item.Run.{Run}
+use Rattle.pllinks.specs.declared.item.ClauseGoals.{ClauseGoals}
 use Rattle.pllinks.specs.declared.item.MarkerKind.{MarkerKind}
-use Rattle.pllinks.specs.declared.item.Item.TheVariants as items
+use Rattle.pllinks.specs.declared.item.Portion.TheVariants as items
 use Rattle.pllinks.specs.declared.link.Link.{Link}
 use Rattle.pllinks.specs.declared.link.Continuation.{Continuation}
 use Rattle.pllinks.specs.Lists.{goal_of, run_goals, elements, all_elements, IsRun, IsItem, AreItems}
@@ -67,7 +67,7 @@ module _ (s : State) (l : Continuation) where
   tail = all_elements (goals_in s) s.env (list_at s.links l.rest)
 
   goals-are : (ts : List Tree) → run_goals (goals_in s) l.run ≡ ts → goals_of s l ≡ map (goal_of s.env l.run) ts ++ tail
-  goals-are ts e = first-elements s (items.Run l.run) (list_at s.links l.rest) ∙ ap (λ us. map (goal_of s.env l.run) us ++ tail) e
+  goals-are ts e = first-elements s (items.Clause l.run) (list_at s.links l.rest) ∙ ap (λ us. map (goal_of s.env l.run) us ++ tail) e
 
 -- the goal that a run begins with
 module _ (s : State) (l : Continuation) (there : IsList s l) (x : Step) (step : IsStep s.basis.code.text l.run.position x) where
@@ -120,7 +120,7 @@ module _ (s : State) (l : Continuation) (there : IsList s l) (x : Step) (step : 
       rest = map (goal_of s.env l.run) sel.rest ++ tail s l;
       goals = both-goals;
       form_is = form_bound σ (of_two (codes ",") sel.left sel.right) first-converted ∙ ap (bound_form σ) sel.form_is;
-      next_goals = first-elements s (items.Run next.run) (list_at s.links l.rest) ∙ ap (λ us. map (goal_of s.env l.run) us ++ tail s l) next-own;
+      next_goals = first-elements s (items.Clause next.run) (list_at s.links l.rest) ∙ ap (λ us. map (goal_of s.env l.run) us ++ tail s l) next-own;
       there = record { there = there.there; items = ((next-fits, slots), there.items.1) };
       levels = some-fits (kinds_in s) (goals_of s l) _ _ both-goals levels;
     }
@@ -157,7 +157,7 @@ module _ (s : State) (l : Continuation) (there : IsList s l) (x : Step) (step : 
       slots = slots;
       goals =
           goals-are s l (step.runs.goal ∷ run_goals (goals_in s) after.run) own-goals
-          ∙ ap (λ es. Goal l.run.level (bind σ step.runs.goal) ∷ es) (sym (same ∙ first-elements s (items.Run after.run) (list_at s.links l.rest)));
+          ∙ ap (λ es. Goal l.run.level (bind σ step.runs.goal) ∷ es) (sym (same ∙ first-elements s (items.Clause after.run) (list_at s.links l.rest)));
       there = behind;
       levels = some-fits (kinds_in s) (goals_of s l) _ _ (goals-are s l (step.runs.goal ∷ run_goals (goals_in s) after.run) own-goals) levels;
       short = short;
@@ -197,10 +197,10 @@ module _ (s : State) (is : IsState s) (l : Continuation) (there : IsList s l) wh
         ∙ ap (λ es. elements (goals_in s) s.env k.item ++ es) (sym (done-elements s is done (refl, refl) (list_at s.links k.next)))
 
     -- a run stands there
-    pub run-there : (r : Run) → k.item ≡ items.Run r → IsList s (record { run = r; rest = k.next })
+    pub run-there : (r : ClauseGoals) → k.item ≡ items.Clause r → IsList s (record { run = r; rest = k.next })
     run-there r e = record { there = behind-link.there; items = (subst (IsItem (goals_in s) s.env.heap (length s.env.slots)) e items-here.0, items-here.1) }
 
-    pub run-goals-there : (r : Run) → k.item ≡ items.Run r → run_goals (goals_in s) l.run ≡ [] → goals_of s (record { run = r; rest = k.next }) ≡ goals_of s l
+    pub run-goals-there : (r : ClauseGoals) → k.item ≡ items.Clause r → run_goals (goals_in s) l.run ≡ [] → goals_of s (record { run = r; rest = k.next }) ≡ goals_of s l
     run-goals-there r e end =
         ap (λ x. all_elements (goals_in s) s.env (x ∷ list_at s.links k.next)) (sym e)
         ∙ sym (goals-are s l [] end ∙ ap (all_elements (goals_in s) s.env) here)

@@ -4,11 +4,11 @@ use Rattle.std.proofs.lemmas.List.{reverse-append, take_all}
 use Rattle.std.proofs.Math.Nat.{eq-or-lt_of_le}
 use Rattle.std.proofs.Math.Seq.{take-suc}
 use Rattle.plcells.specs.declared.cell.Cell.{Cell}
-use Rattle.plsearch.specs.Types.{Place, Case, Choice}
+use Rattle.plsearch.specs.Types.{Resolvent, Case, Choice}
 use Rattle.plsearch.specs.Engine.{deeper}
 use Rattle.plsearch.specs.Machines.Levels.{emptied}
 use Rattle.plenv.specs.Env.{Env, cut}
-use Rattle.pllinks.specs.declared.item.Item.{Item}
+use Rattle.pllinks.specs.declared.item.Portion.{Portion}
 use Rattle.pllinks.specs.declared.link.Link.{Link}
 use Rattle.pllinks.specs.Lists.{Goals}
 use Rattle.pllinks.specs.Links.{items_of}
@@ -41,16 +41,16 @@ emptied-plain (c ∷ cs) below = ap (λ xs. Choice [] ∷ xs) (emptied-plain cs 
 -- cases with a choice at a level
 pub record Splits (all : List Case) (level : ℕ) (low : List Case) : Type 0 where
   pub inside : List Case
-  pub places : List Place
+  pub places : List Resolvent
   pub is : all ≡ inside ++ Choice places ∷ low
   pub count : deeper all 0 ≡ length inside + suc level
 
 record IsChoiceCase (c : Case) : Type 0 where
-  places : List Place
+  places : List Resolvent
   is : c ≡ Choice places
 
 module _ (db : Database) (code : Goals) (e : Env) (links : List Link) (saved : List Cell) where
-  chosen : (d : ℕ) (x : Env) (xs : List Item) (vs : List Cell) (r : Resume) → sort_of r ≡ Choosing → IsChoiceCase (case_of db code d x xs vs r)
+  chosen : (d : ℕ) (x : Env) (xs : List Portion) (vs : List Cell) (r : Resume) → sort_of r ≡ Choosing → IsChoiceCase (case_of db code d x xs vs r)
   chosen d x xs vs (resumes.Clauses c) i = record { places = _; is = refl }
   chosen d x xs vs (resumes.Walk w) i = record { places = _; is = refl }
   chosen d x xs vs (resumes.Answers a) i = record { places = _; is = refl }

@@ -1,7 +1,7 @@
 -- Walks among open cases, where frames are put on a stack and taken off.
 use Rattle.std.proofs.Common.{◌≡◌, ℕ, List, [], ◌∷◌, ◌++◌, take, drop, reverse, Option, None, Some, refl, sym, ap, ◌∙◌, append_assoc, take-append-drop}
 use Rattle.std.proofs.lemmas.List.{reverse-append}
-use Rattle.plgenerator.specs.declared.turn.Turn.{Turn}
+use Rattle.plgenerator.specs.declared.turn.Remaining.{Remaining}
 use Rattle.plstack.specs.declared.frame.Point.{Point}
 use Rattle.plstack.specs.declared.frame.Spot.{Spot}
 use Rattle.plstack.specs.declared.frame.Walk.{Walk}
@@ -54,7 +54,7 @@ pub call-walks : (p : Point) (c : Clauses) (next : Option ℕ) (old new : List F
 call-walks p c (Some next) old new pushes = pushed-walks new old (Open p (resumes.Clauses (record { procedure = c.procedure; count = c.count; next = next }))) pushes
 call-walks p c None old new up = up.walks
 
-pub answer-walks : (p : Point) (count : ℕ) (rest : Option Turn) (old new : List Frame) → PushesAnswers p count rest old new → walks_of (reverse new) ≡ walks_of (reverse old)
+pub answer-walks : (p : Point) (count : ℕ) (rest : Option Remaining) (old new : List Frame) → PushesAnswers p count rest old new → walks_of (reverse new) ≡ walks_of (reverse old)
 answer-walks p count (Some turn) old new pushes = pushed-walks new old (Open p (resumes.Answers (record { count = count; turn = turn }))) pushes
 answer-walks p count None old new up = up.walks
 

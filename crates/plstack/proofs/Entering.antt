@@ -4,7 +4,7 @@ use Rattle.plterm.specs.Tree.{Tree}
 use Rattle.plsubst.specs.Subst.{bind}
 use Rattle.plclause.specs.Clause.{Clause}
 use Rattle.plcells.specs.declared.cell.Cell.{Cell}
-use Rattle.plsearch.specs.Types.{Element, Place, Case, Choice}
+use Rattle.plsearch.specs.Types.{Element, Resolvent, Case, Choice}
 use Rattle.plsearch.specs.Lists.{bind_goals}
 use Rattle.plsearch.specs.Moves.{before_rest, is_true}
 use Rattle.plsearch.specs.Engine.{deeper}
@@ -69,7 +69,7 @@ module _ (s t : State) (p : Point) (c : Clauses) (n : ℕ) (at : AtCall s p c) (
     pub retries-entered : (db : Database) (new : State) (hit : Hit) → cases_of db u ≡ cases_of db t → Hits db t u p c hit → Enters db u new p c hit n → Retries db s new
     retries-entered db new hit cases hits enters =
         let d : ℕ = deeper enters.goes.below 0 in
-        let left : List Place = further db u d p c (onward hit.next (db.statics c.procedure).clauses) in
+        let left : List Resolvent = further db u d p c (onward hit.next (db.statics c.procedure).clauses) in
         let body : Tree = bind (over u.env hit.base) hits.clause.body in
         record {
           others = left;
@@ -90,7 +90,7 @@ none-entered db s p c calling none =
     let below = cases_of db (record s { frames = calling.rest }) in
     (below, popped-cases db s calling.rest (Open p (resumes.Clauses c)) calling.top ∙ ap (λ ps. Choice ps ∷ below) (none (deeper below 0)))
 
-places_in : List Place → Case → List Place
+places_in : List Resolvent → Case → List Resolvent
 places_in d (Choice ps) = ps
 places_in d x = d
 
@@ -103,7 +103,7 @@ behind_first [] = []
 behind_first (x ∷ xs) = xs
 
 -- a choice before cases is the same
-choices-same : (ps qs : List Place) (xs ys : List Case) → Choice ps ∷ xs ≡ Choice qs ∷ ys → (ps ≡ qs) × (xs ≡ ys)
+choices-same : (ps qs : List Resolvent) (xs ys : List Case) → Choice ps ∷ xs ≡ Choice qs ∷ ys → (ps ≡ qs) × (xs ≡ ys)
 unfolding places_in first_case behind_first
 choices-same ps qs xs ys e = (ap (λ zs. places_in ps (first_case (Choice ps) zs)) e, ap behind_first e)
 

@@ -9,7 +9,7 @@ use Rattle.plenv.specs.Env.{Env, cut, renamed, IsMark}
 use Rattle.plenv.specs.Changes.{Keeps}
 use Rattle.plenv.proofs.Cuts.{cut-cut, cut-names, IsMark-cut}
 use Rattle.plenv.proofs.Renaming.{IsMark-kept}
-use Rattle.pllinks.specs.declared.item.Item.TheVariants as items
+use Rattle.pllinks.specs.declared.item.Portion.TheVariants as items
 use Rattle.pllinks.specs.declared.link.Link.{Link}
 use Rattle.pllinks.specs.declared.link.Continuation.{Continuation}
 use Rattle.pllinks.specs.Lists.{Goals, AreItems}
@@ -39,10 +39,10 @@ depth-cases db code e links saved (Open p r ∷ fs) = omega (arith, depth-cases 
 
 -- a list among the first links
 pub items-more : (links more : List Link) (l : Continuation) → l.rest ≤ length links → items_of (links ++ more) l ≡ items_of links l
-items-more links more l le = ap (λ xs. items.Run l.run ∷ xs) (list_at-more links more l.rest le)
+items-more links more l le = ap (λ xs. items.Clause l.run ∷ xs) (list_at-more links more l.rest le)
 
 pub items-take : (links : List Link) (n : ℕ) (l : Continuation) → l.rest ≤ n → n ≤ length links → items_of (take n links) l ≡ items_of links l
-items-take links n l le room = ap (λ xs. items.Run l.run ∷ xs) (list_at-take links n l.rest le room)
+items-take links n l le room = ap (λ xs. items.Clause l.run ∷ xs) (list_at-take links n l.rest le room)
 
 -- a run of values among the first
 run-more : (m k : ℕ) (xs ys : List Cell) → m + k ≤ length xs → take k (drop m (xs ++ ys)) ≡ take k (drop m xs)

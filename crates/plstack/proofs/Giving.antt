@@ -5,7 +5,7 @@ use Rattle.std.proofs.Math.Nat.{eq-or-lt_of_le}
 use Rattle.plcells.specs.declared.cell.Cell.{Cell}
 use Rattle.plsearch.specs.Engine.{deeper}
 use Rattle.plenv.specs.Env.{Env, cut}
-use Rattle.pllinks.specs.declared.item.Item.TheVariants as items
+use Rattle.pllinks.specs.declared.item.Portion.TheVariants as items
 use Rattle.pllinks.specs.declared.link.Link.{Link}
 use Rattle.pllinks.specs.declared.link.Continuation.{Continuation}
 use Rattle.pllinks.specs.Lists.{Goals, AreItems, all_elements}
@@ -44,7 +44,7 @@ held-within code e links saved (Open p r ∷ fs) a = (le_refl _, older-within p.
 module _ (code : Goals) (e : Env) (links ls : List Link) (saved : List Cell) (n : ℕ) (room : n ≤ length ls) (same : (i : ℕ) → i ≤ n → list_at ls i ≡ list_at links i) where
   module _ (p : Point) (r : Resume) (fs : List Frame) (le : p.marks.links ≤ n) (is : IsOpen code e links saved p r fs) where
     same-items : items_of ls p.list ≡ items_of links p.list
-    same-items = ap (λ xs. items.Run p.list.run ∷ xs) (same p.list.rest (le_trans is.list le))
+    same-items = ap (λ xs. items.Clause p.list.run ∷ xs) (same p.list.rest (le_trans is.list le))
 
     open-same : IsOpen code e ls saved p r fs
     open-same = record {
@@ -84,7 +84,7 @@ module _ (s : State) (d : ℕ) (is : IsStack s d) (ls : List Link) (g : ℕ) (ch
   within = held-within (goals_in s) s.env s.links s.saved (reverse s.frames) is.0.frames
 
   visited-items : items_of ls (rest_at s g) ≡ items_of s.links s.goals
-  visited-items = ap (λ xs. items.Run s.goals.run ∷ xs) visited
+  visited-items = ap (λ xs. items.Clause s.goals.run ∷ xs) visited
 
   pub given-stack : IsStack (record s { links = ls; goals = record { run = s.goals.run; rest = g } }) d
   given-stack = (

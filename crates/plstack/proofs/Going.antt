@@ -9,8 +9,8 @@ use Rattle.plcode.specs.Clauses.{IsCodeOf}
 use Rattle.plcode.specs.Converted.{AreConverted}
 use Rattle.plenv.specs.Env.{over}
 use Rattle.plenv.specs.Rows.{AllBelowEach}
-use Rattle.pllinks.specs.declared.item.Run.{Run}
-use Rattle.pllinks.specs.declared.item.Item.TheVariants as items
+use Rattle.pllinks.specs.declared.item.ClauseGoals.{ClauseGoals}
+use Rattle.pllinks.specs.declared.item.Portion.TheVariants as items
 use Rattle.pllinks.specs.declared.link.Continuation.{Continuation}
 use Rattle.pllinks.specs.Lists.{goal_of, run_goals, all_elements, IsItem}
 use Rattle.pllinks.specs.Links.{alone, done, list_at}
@@ -73,13 +73,13 @@ place-framed s new e = ap (λ (x : State). place_of x) e
 -- a clause's body before a list with a number
 module _ (s : State) (d : ℕ) (is : IsStack s d) (hit : Hit) (x : Clause) (code : IsCodeOf s.basis.code.text hit.clause x) (slots : hit.base + hit.clause.variables ≤ length s.env.slots)
     (rest : Continuation) (behind : ℕ) (there : IsList s (alone behind)) (same : goals_of s (alone behind) ≡ goals_of s rest) (level : ℕ) where
-  abbrev run : Run
+  abbrev run : ClauseGoals
   run = record { position = hit.clause.body; owed = 0; base = hit.base; «end» = hit.base + hit.clause.variables; level = level }
 
   own-goals : run_goals (goals_in s) run ≡ x.body ∷ []
   own-goals = code.body.goals
 
-  own-item : IsItem (goals_in s) s.env.heap (length s.env.slots) (items.Run run)
+  own-item : IsItem (goals_in s) s.env.heap (length s.env.slots) (items.Clause run)
   own-item = (record { width = x.variables; below = subst (AllBelowEach x.variables) (sym own-goals) (code.sound.body_below, tt); within = omega (arith, code.variables); converted = subst AreConverted (sym own-goals) (code.sound.converted_body, tt) }, slots)
 
   there-if : (b : Bool) → IsList s (if b then alone behind else record { run = record { position = hit.clause.body; owed = 0; base = hit.base; «end» = hit.base + hit.clause.variables; level = level }; rest = behind })
@@ -93,7 +93,7 @@ module _ (s : State) (d : ℕ) (is : IsStack s d) (hit : Hit) (x : Clause) (code
       ≡ before_rest b level (bind (over s.env hit.base) x.body) (goals_of s rest)
   goals-if true = same
   goals-if false =
-      first-elements s (items.Run run) (list_at s.links behind)
+      first-elements s (items.Clause run) (list_at s.links behind)
       ∙ ap (λ ts. map (goal_of s.env run) ts ++ all_elements (goals_in s) s.env (list_at s.links behind)) own-goals
       ∙ ap (λ es. Goal level (bind (over s.env hit.base) x.body) ∷ es) (sym (done-elements s is.0 done (refl, refl) (list_at s.links behind)) ∙ same)
 

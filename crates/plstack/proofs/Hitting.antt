@@ -10,7 +10,7 @@ use Rattle.platoms.proofs.Extending.{Extends-trans as extends-names}
 use Rattle.plclause.specs.Clause.{Clause}
 use Rattle.plcells.specs.declared.cell.Cell.{Cell}
 use Rattle.plcells.specs.Store.{AreValues, value}
-use Rattle.plsearch.specs.Types.{Element, Place}
+use Rattle.plsearch.specs.Types.{Element, Resolvent}
 use Rattle.plsearch.specs.Lists.{bind_goals}
 use Rattle.plsearch.specs.Moves.{before_rest, is_true, resolve}
 use Rattle.plcode.specs.declared.clause.ClauseCode.{ClauseCode}
@@ -58,7 +58,7 @@ drop-split zero (y ∷ ys) x e = ap (λ zs. get_or zs 0 x ∷ ys) e
 drop-split (suc i) [] x e = cc
 drop-split (suc i) (y ∷ ys) x e = drop-split i ys x e
 
-unfoldable pub place-with : Bool → ℕ → Tree → List Element → ℕ → Place
+unfoldable pub place-with : Bool → ℕ → Tree → List Element → ℕ → Resolvent
 place-with b l t es n = record { goals = before_rest b l t es; variables = n }
 
 module _ (s : State) (d : ℕ) (is : IsStack s d) (p : Point) (c : Clauses) (at : AtCall s p c) where

@@ -4,8 +4,8 @@ use Rattle.plterm.specs.Tree.{Tree}
 use Rattle.plcells.specs.declared.cell.Cell.{Cell}
 use Rattle.plsearch.specs.Types.{Element, Goal}
 use Rattle.plsearch.specs.Moves.{before_rest}
-use Rattle.pllinks.specs.declared.item.Item.{Item}
-use Rattle.pllinks.specs.declared.item.Item.TheVariants as items
+use Rattle.pllinks.specs.declared.item.Portion.{Portion}
+use Rattle.pllinks.specs.declared.item.Portion.TheVariants as items
 use Rattle.pllinks.specs.declared.link.Link.{Link}
 use Rattle.pllinks.specs.declared.link.Continuation.{Continuation}
 use Rattle.pllinks.specs.Links.{alone, link_to, IsChain, Numbers}
@@ -15,7 +15,7 @@ use Rattle.plstack.specs.State.{IsList, goals_of}
 use Rattle.plstack.specs.Trials.{ListsBody}
 use Rattle.plstack.proofs.Lists.{item-before}
 
-module _ (links mid new : List Link) (x : Item) (rest : Continuation) (behind m : ℕ) (number : Numbers links mid rest behind) (pushed : new ≡ mid ++ link_to mid x behind ∷ []) (place : m ≡ length mid + 1) where
+module _ (links mid new : List Link) (x : Portion) (rest : Continuation) (behind m : ℕ) (number : Numbers links mid rest behind) (pushed : new ≡ mid ++ link_to mid x behind ∷ []) (place : m ≡ length mid + 1) where
   pub links-item : LinksItem links new x rest (alone m)
   links-item = record {
     more = number.more ++ link_to mid x behind ∷ [];

@@ -6,9 +6,9 @@ use Rattle.plcode.specs.Converted.{AreConverted}
 use Rattle.plenv.specs.Env.{Env}
 use Rattle.plenv.specs.Rows.{AllBelowEach}
 use Rattle.plenv.proofs.Putting.{Stays-refl}
-use Rattle.pllinks.specs.declared.item.Run.{Run}
-use Rattle.pllinks.specs.declared.item.Item.{Item}
-use Rattle.pllinks.specs.declared.item.Item.TheVariants as items
+use Rattle.pllinks.specs.declared.item.ClauseGoals.{ClauseGoals}
+use Rattle.pllinks.specs.declared.item.Portion.{Portion}
+use Rattle.pllinks.specs.declared.item.Portion.TheVariants as items
 use Rattle.pllinks.specs.declared.link.Link.{Link}
 use Rattle.pllinks.specs.declared.link.Continuation.{Continuation}
 use Rattle.pllinks.specs.Lists.{Goals, goal_of, elements, all_elements, AreItems, IsItem}
@@ -30,17 +30,17 @@ no-elements code none e links = ap₂ (λ ts xs. map (goal_of e done) ts ++ all_
 
 module _ (s : State) (is : IsState s) where
   -- a run of no goals
-  pub done-item : (n : ℕ) → IsItem (goals_in s) s.env.heap n (items.Run done)
+  pub done-item : (n : ℕ) → IsItem (goals_in s) s.env.heap n (items.Clause done)
   done-item n = (record { width = 0; below = subst (AllBelowEach 0) (sym is.none) tt; within = le_refl _; converted = subst AreConverted (sym is.none) tt }, omega arith)
 
-  none-elements : (r : Run) → IsDone r → elements (goals_in s) s.env (items.Run r) ≡ []
+  none-elements : (r : ClauseGoals) → IsDone r → elements (goals_in s) s.env (items.Clause r) ≡ []
   none-elements r i = ap₂ (λ p o. map (goal_of s.env r) (goals_in s p o)) i.0 i.1 ∙ ap (map (goal_of s.env r)) is.none
 
-  pub done-elements : (r : Run) → IsDone r → (xs : List Item) → all_elements (goals_in s) s.env (items.Run r ∷ xs) ≡ all_elements (goals_in s) s.env xs
+  pub done-elements : (r : ClauseGoals) → IsDone r → (xs : List Portion) → all_elements (goals_in s) s.env (items.Clause r ∷ xs) ≡ all_elements (goals_in s) s.env xs
   unfolding all_elements
   done-elements r i xs = ap (λ es. es ++ all_elements (goals_in s) s.env xs) (none-elements r i)
 
-pub first-elements : (s : State) (x : Item) (xs : List Item) → all_elements (goals_in s) s.env (x ∷ xs) ≡ elements (goals_in s) s.env x ++ all_elements (goals_in s) s.env xs
+pub first-elements : (s : State) (x : Portion) (xs : List Portion) → all_elements (goals_in s) s.env (x ∷ xs) ≡ elements (goals_in s) s.env x ++ all_elements (goals_in s) s.env xs
 unfolding all_elements
 first-elements s x xs = refl
 
@@ -100,14 +100,14 @@ module _ (s : State) (is : IsState s) (ls : List Link) (l : Continuation) (n : �
   numbered-state = state-linked s is ls number.more number.is chain-now
 
   -- a run before it
-  pub run-before : (r : Run) → IsItem (goals_in s) s.env.heap (length s.env.slots) (items.Run r) →
-      AddsList s (record s { links = ls }) (record { run = r; rest = n }) (elements (goals_in s) s.env (items.Run r) ++ goals_of s l)
-  run-before r fits = adds-list s is ls number.more number.is chain-now (record { run = r; rest = n }) (elements (goals_in s) s.env (items.Run r) ++ goals_of s l)
+  pub run-before : (r : ClauseGoals) → IsItem (goals_in s) s.env.heap (length s.env.slots) (items.Clause r) →
+      AddsList s (record s { links = ls }) (record { run = r; rest = n }) (elements (goals_in s) s.env (items.Clause r) ++ goals_of s l)
+  run-before r fits = adds-list s is ls number.more number.is chain-now (record { run = r; rest = n }) (elements (goals_in s) s.env (items.Clause r) ++ goals_of s l)
       (record { there = number.there; items = (fits, stands.items) })
-      (first-elements s (items.Run r) (list_at ls n) ∙ ap (λ es. elements (goals_in s) s.env (items.Run r) ++ es) stands.goals)
+      (first-elements s (items.Clause r) (list_at ls n) ∙ ap (λ es. elements (goals_in s) s.env (items.Clause r) ++ es) stands.goals)
 
   -- an item before it
-  module _ (x : Item) (fits : IsItem (goals_in s) s.env.heap (length s.env.slots) x) (new : List Link) (m : ℕ) (pushed : new ≡ ls ++ link_to ls x n ∷ []) (place : m ≡ length ls + 1) where
+  module _ (x : Portion) (fits : IsItem (goals_in s) s.env.heap (length s.env.slots) x) (new : List Link) (m : ℕ) (pushed : new ≡ ls ++ link_to ls x n ∷ []) (place : m ≡ length ls + 1) where
     more-links : new ≡ s.links ++ (number.more ++ link_to ls x n ∷ [])
     more-links = pushed ∙ ap (λ ks. ks ++ link_to ls x n ∷ []) number.is ∙ append_assoc s.links number.more (link_to ls x n ∷ [])
 

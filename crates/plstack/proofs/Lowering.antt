@@ -8,8 +8,8 @@ use Rattle.plenv.specs.Env.{Env, IsEnv, IsMark, cut, over}
 use Rattle.plenv.specs.Rows.{AllBelowEach}
 use Rattle.plenv.specs.Changes.{lowered}
 use Rattle.plenv.proofs.Lowering.{length-lowered, variable-below, over-lowered, lowered-same, cut-lowered, IsMark-lowered}
-use Rattle.pllinks.specs.declared.item.Run.{Run}
-use Rattle.pllinks.specs.declared.item.Item.TheVariants as items
+use Rattle.pllinks.specs.declared.item.ClauseGoals.{ClauseGoals}
+use Rattle.pllinks.specs.declared.item.Portion.TheVariants as items
 use Rattle.pllinks.specs.Lists.{goal_of, run_goals, all_elements, IsRun, AreItems}
 use Rattle.pllinks.specs.Links.{list_at, items_of, slots_at}
 use Rattle.pllinks.specs.Changing.{Agrees}
@@ -21,11 +21,11 @@ use Rattle.plstack.proofs.Giving.{back_refl}
 use Rattle.plstack.proofs.Releasing.{ask-of, items-within, cases-marked, frames-marked}
 
 -- a run whose slots begin at another place
-abbrev pub run_at : ℕ → ℕ → Run → Run
+abbrev pub run_at : ℕ → ℕ → ClauseGoals → ClauseGoals
 run_at at end r = record { position = r.position; owed = r.owed; base = at; «end» = end; level = r.level }
 
 -- the goals over the same
-goals-moved : (old new : Env) (r : Run) (at end width : ℕ) (ts : List Tree) → ((x : ℕ) → over new at x ≡ over old r.base x) → AllBelowEach width ts → map (goal_of new (run_at at end r)) ts ≡ map (goal_of old r) ts
+goals-moved : (old new : Env) (r : ClauseGoals) (at end width : ℕ) (ts : List Tree) → ((x : ℕ) → over new at x ≡ over old r.base x) → AllBelowEach width ts → map (goal_of new (run_at at end r)) ts ≡ map (goal_of old r) ts
 goals-moved old new r at end width [] same b = refl
 goals-moved old new r at end width (t ∷ ts) same b =
     ap₂ (λ x xs. Goal r.level x ∷ xs) (bind-agree (over new at) (over old r.base) width t (λ x lt. same x) b.0) (goals-moved old new r at end width ts same b.1)
@@ -64,12 +64,12 @@ module _ (s : State) (d : ℕ) (is : IsStack s d) (at : ℕ) (down : at ≤ s.go
   run-same : map (goal_of (lowered at s.goals.run.base s.env) (run_at at (s.goals.run.«end» - (s.goals.run.base - at)) s.goals.run)) (run_goals (goals_in s) s.goals.run) ≡ map (goal_of s.env s.goals.run) (run_goals (goals_in s) s.goals.run)
   run-same = let r = is.0.goals.items.0.0 in goals-moved s.env (lowered at s.goals.run.base s.env) s.goals.run at (s.goals.run.«end» - (s.goals.run.base - at)) r.width (run_goals (goals_in s) s.goals.run) (over-lowered s.env at s.goals.run.base down within is.0.env.slots) r.below
 
-  items-there : AreItems (goals_in s) s.env.heap (length (take at s.env.slots ++ drop s.goals.run.base s.env.slots)) (items.Run (run_at at (s.goals.run.«end» - (s.goals.run.base - at)) s.goals.run) ∷ list_at s.links s.goals.rest)
+  items-there : AreItems (goals_in s) s.env.heap (length (take at s.env.slots ++ drop s.goals.run.base s.env.slots)) (items.Clause (run_at at (s.goals.run.«end» - (s.goals.run.base - at)) s.goals.run) ∷ list_at s.links s.goals.rest)
   items-there =
       let r = is.0.goals.items.0 in
       ((run-there, omega (arith, r.1, r.0.within, down, long)), items-more (goals_in s) s.env at (length (take at s.env.slots ++ drop s.goals.run.base s.env.slots)) (list_at s.links s.goals.rest) (omega (arith, long)) rest-items)
 
-  items-same : all_elements (goals_in s) (lowered at s.goals.run.base s.env) (items.Run (run_at at (s.goals.run.«end» - (s.goals.run.base - at)) s.goals.run) ∷ list_at s.links s.goals.rest) ≡ all_elements (goals_in s) s.env (items_of s.links s.goals)
+  items-same : all_elements (goals_in s) (lowered at s.goals.run.base s.env) (items.Clause (run_at at (s.goals.run.«end» - (s.goals.run.base - at)) s.goals.run) ∷ list_at s.links s.goals.rest) ≡ all_elements (goals_in s) s.env (items_of s.links s.goals)
   unfolding all_elements
   items-same = ap₂ (λ xs ys. xs ++ ys) run-same rest-same.1
 

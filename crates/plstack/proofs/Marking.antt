@@ -4,9 +4,9 @@ use Rattle.plterm.specs.Tree.{Tree}
 use Rattle.plsearch.specs.Types.{Element}
 use Rattle.plsearch.specs.Lists.{levels}
 use Rattle.plenv.specs.Env.{Env}
-use Rattle.pllinks.specs.declared.item.Run.{Run}
-use Rattle.pllinks.specs.declared.item.Item.{Item}
-use Rattle.pllinks.specs.declared.item.Item.TheVariants as items
+use Rattle.pllinks.specs.declared.item.ClauseGoals.{ClauseGoals}
+use Rattle.pllinks.specs.declared.item.Portion.{Portion}
+use Rattle.pllinks.specs.declared.item.Portion.TheVariants as items
 use Rattle.pllinks.specs.declared.link.Link.{Link}
 use Rattle.pllinks.specs.declared.link.Continuation.{Continuation}
 use Rattle.pllinks.specs.Lists.{Goals, goal_of, run_goals, elements, all_elements}
@@ -15,25 +15,25 @@ use Rattle.pllinks.proofs.Arena.{list_at-first, list_at-none}
 use Rattle.plstack.specs.Levels.{levels_of}
 
 module _ (code : Goals) (e : Env) where
-  levels-run : (r : Run) (ts : List Tree) (es : List Element) → levels (map (goal_of e r) ts ++ es) ≡ levels es
+  levels-run : (r : ClauseGoals) (ts : List Tree) (es : List Element) → levels (map (goal_of e r) ts ++ es) ≡ levels es
   levels-run r [] es = refl
   levels-run r (t ∷ ts) es = levels-run r ts es
 
-  levels-item : (x : Item) (es : List Element) → levels (elements code e x ++ es) ≡ levels_of x ++ levels es
-  levels-item (items.Run r) es = levels-run r (run_goals code r) es
+  levels-item : (x : Portion) (es : List Element) → levels (elements code e x ++ es) ≡ levels_of x ++ levels es
+  levels-item (items.Clause r) es = levels-run r (run_goals code r) es
   levels-item (items.Goal k v) es = refl
   levels-item (items.Marker m l) es = refl
 
   -- those of a list
-  abbrev pub levels_at : List Item → List ℕ
+  abbrev pub levels_at : List Portion → List ℕ
   levels_at xs = levels (all_elements code e xs)
 
-  levels-first : (x : Item) (xs : List Item) → levels_at (x ∷ xs) ≡ levels_of x ++ levels_at xs
+  levels-first : (x : Portion) (xs : List Portion) → levels_at (x ∷ xs) ≡ levels_of x ++ levels_at xs
   unfolding all_elements
   levels-first x xs = levels-item x (all_elements code e xs)
 
   levels-list : (links : List Link) (l : Continuation) → levels_at (items_of links l) ≡ levels_at (list_at links l.rest)
-  levels-list links l = levels-first (items.Run l.run) (list_at links l.rest)
+  levels-list links l = levels-first (items.Clause l.run) (list_at links l.rest)
 
   pub levels-start : (links : List Link) (l : Continuation) (found : List ℕ) → found ≡ [] → found ++ levels_at (list_at links l.rest) ≡ levels_at (items_of links l)
   levels-start links l found none = ap (λ xs. xs ++ levels_at (list_at links l.rest)) none ∙ sym (levels-list links l)

@@ -8,16 +8,16 @@ use Rattle.plcells.specs.Store.{Store}
 use Rattle.plsubst.specs.Subst.{bind, shift}
 use Rattle.plsubst.specs.Unify.{unify}
 use Rattle.plclause.specs.Clause.{Clause}
-use Rattle.plsearch.specs.Types.{Kind, Commit, Never, Until, Collect, Transact, Element, Goal, Marker, Raise, Asking, Place, Case}
+use Rattle.plsearch.specs.Types.{Kind, Commit, Never, Until, Collect, Transact, Element, Goal, Marker, Raise, Asking, Resolvent, Case}
 use Rattle.plsearch.specs.Moves.{before_rest, is_true, resolve}
 use Rattle.plsearch.specs.Lists.{bind_kind, bind_goals}
 use Rattle.plsearch.specs.Machines.Levels.{IsKindAtMost, AreAtMost}
 use Rattle.plenv.specs.Env.{Env, cut}
 use Rattle.pllinks.specs.declared.item.MarkerKind.{MarkerKind}
 use Rattle.pllinks.specs.declared.item.MarkerKind.TheVariants as markers
-use Rattle.pllinks.specs.declared.item.Run.{Run}
-use Rattle.pllinks.specs.declared.item.Item.{Item}
-use Rattle.pllinks.specs.declared.item.Item.TheVariants as items
+use Rattle.pllinks.specs.declared.item.ClauseGoals.{ClauseGoals}
+use Rattle.pllinks.specs.declared.item.Portion.{Portion}
+use Rattle.pllinks.specs.declared.item.Portion.TheVariants as items
 use Rattle.pllinks.specs.declared.link.Link.{Link}
 use Rattle.pllinks.specs.Lists.{Goals, goal_of, run_goals, marker_of, elements, all_elements}
 use Rattle.pllinks.specs.Links.{items_of}
@@ -131,52 +131,52 @@ same-transact h h' (markers.Collect v) k = refl
 same-transact h h' (markers.Transact d) k = refl
 
 module _ (ks : List Sort) (code : Goals) (e e' : Env) where
-  run-fits : (r : Run) (ts : List Tree) (es es' : List Element) → ((d : ℕ) → Fits ks d es → Fits ks d es') → (d : ℕ) → Fits ks d (map (goal_of e r) ts ++ es) → Fits ks d (map (goal_of e' r) ts ++ es')
+  run-fits : (r : ClauseGoals) (ts : List Tree) (es es' : List Element) → ((d : ℕ) → Fits ks d es → Fits ks d es') → (d : ℕ) → Fits ks d (map (goal_of e r) ts ++ es) → Fits ks d (map (goal_of e' r) ts ++ es')
   run-fits r [] es es' on d f = on d f
   run-fits r (t ∷ ts) es es' on d f = (f.0, f.1, run-fits r ts es es' on (suc r.level) f.2)
 
-  item-fits : (x : Item) (es es' : List Element) → ((d : ℕ) → Fits ks d es → Fits ks d es') → (d : ℕ) → Fits ks d (elements code e x ++ es) → Fits ks d (elements code e' x ++ es')
-  item-fits (items.Run r) es es' on d f = run-fits r (run_goals code r) es es' on d f
+  item-fits : (x : Portion) (es es' : List Element) → ((d : ℕ) → Fits ks d es → Fits ks d es') → (d : ℕ) → Fits ks d (elements code e x ++ es) → Fits ks d (elements code e' x ++ es')
+  item-fits (items.Clause r) es es' on d f = run-fits r (run_goals code r) es es' on d f
   item-fits (items.Goal k v) es es' on d f = (f.0, f.1, on (suc k) f.2)
   item-fits (items.Marker m k) es es' on d f =
       (f.0, same-cut ks e.heap e'.heap m k f.1, on (top_behind (marker_of e'.heap m) k) (subst (λ n. Fits ks n es) (same-top e.heap e'.heap m k) f.2))
 
-  all-fit : (xs : List Item) (d : ℕ) → Fits ks d (all_elements code e xs) → Fits ks d (all_elements code e' xs)
+  all-fit : (xs : List Portion) (d : ℕ) → Fits ks d (all_elements code e xs) → Fits ks d (all_elements code e' xs)
   unfolding all_elements
   all-fit [] d f = f
   all-fit (x ∷ xs) d f = item-fits x (all_elements code e xs) (all_elements code e' xs) (all-fit xs) d f
 
-  run-transacts : (r : Run) (ts : List Tree) (es es' : List Element) → transacts es ≡ transacts es' → transacts (map (goal_of e r) ts ++ es) ≡ transacts (map (goal_of e' r) ts ++ es')
+  run-transacts : (r : ClauseGoals) (ts : List Tree) (es es' : List Element) → transacts es ≡ transacts es' → transacts (map (goal_of e r) ts ++ es) ≡ transacts (map (goal_of e' r) ts ++ es')
   run-transacts r [] es es' same = same
   run-transacts r (t ∷ ts) es es' same = run-transacts r ts es es' same
 
-  item-transacts : (x : Item) (es es' : List Element) → transacts es ≡ transacts es' → transacts (elements code e x ++ es) ≡ transacts (elements code e' x ++ es')
-  item-transacts (items.Run r) es es' same = run-transacts r (run_goals code r) es es' same
+  item-transacts : (x : Portion) (es es' : List Element) → transacts es ≡ transacts es' → transacts (elements code e x ++ es) ≡ transacts (elements code e' x ++ es')
+  item-transacts (items.Clause r) es es' same = run-transacts r (run_goals code r) es es' same
   item-transacts (items.Goal k v) es es' same = same
   item-transacts (items.Marker m k) es es' same = ap₂ (λ ks ls. ks ++ ls) (same-transact e.heap e'.heap m k) same
 
-  all-transacts : (xs : List Item) → transacts (all_elements code e xs) ≡ transacts (all_elements code e' xs)
+  all-transacts : (xs : List Portion) → transacts (all_elements code e xs) ≡ transacts (all_elements code e' xs)
   unfolding all_elements
   all-transacts [] = refl
   all-transacts (x ∷ xs) = item-transacts x (all_elements code e xs) (all_elements code e' xs) (all-transacts xs)
 
   -- whatever the environment is, where the items are the same
-  pub fits-env : (xs ys : List Item) → ys ≡ xs → FitsIn ks (all_elements code e xs) → FitsIn ks (all_elements code e' ys)
+  pub fits-env : (xs ys : List Portion) → ys ≡ xs → FitsIn ks (all_elements code e xs) → FitsIn ks (all_elements code e' ys)
   fits-env xs ys same f = subst (λ us. FitsIn ks (all_elements code e' us)) (sym same) (all-fit xs (length ks) f.0, sym (all-transacts xs) ∙ f.1)
 
   -- no goals are none whatever it is
-  run-none : (r : Run) (ts : List Tree) (es es' : List Element) → (es ≡ [] → es' ≡ []) → map (goal_of e r) ts ++ es ≡ [] → map (goal_of e' r) ts ++ es' ≡ []
+  run-none : (r : ClauseGoals) (ts : List Tree) (es es' : List Element) → (es ≡ [] → es' ≡ []) → map (goal_of e r) ts ++ es ≡ [] → map (goal_of e' r) ts ++ es' ≡ []
   run-none r [] es es' on none = on none
   run-none r (t ∷ ts) es es' on none = absurd (cc)
 
-  all-none : (xs : List Item) → all_elements code e xs ≡ [] → all_elements code e' xs ≡ []
+  all-none : (xs : List Portion) → all_elements code e xs ≡ [] → all_elements code e' xs ≡ []
   unfolding all_elements
   all-none [] none = refl
-  all-none (items.Run r ∷ xs) none = run-none r (run_goals code r) (all_elements code e xs) (all_elements code e' xs) (all-none xs) none
+  all-none (items.Clause r ∷ xs) none = run-none r (run_goals code r) (all_elements code e xs) (all_elements code e' xs) (all-none xs) none
   all-none (items.Goal k v ∷ xs) none = absurd (cc)
   all-none (items.Marker m k ∷ xs) none = absurd (cc)
 
-  pub visited-env : (xs ys : List Item) → ys ≡ xs → EmptyOrFits ks (all_elements code e xs) → EmptyOrFits ks (all_elements code e' ys)
+  pub visited-env : (xs ys : List Portion) → ys ≡ xs → EmptyOrFits ks (all_elements code e xs) → EmptyOrFits ks (all_elements code e' ys)
   visited-env xs ys same (inl none) = inl (ap (all_elements code e') same ∙ all-none xs none)
   visited-env xs ys same (inr f) = inr (fits-env xs ys same f)
 
@@ -255,7 +255,7 @@ pub kinds-plain : (n : ℕ) (cs : List Case) → kinds (plain n cs) ≡ choices 
 kinds-plain zero cs = refl
 kinds-plain (suc n) cs = ap (λ ks. Choosing ∷ ks) (kinds-plain n cs)
 
-kind-of-case : (db : Database) (code : Goals) (d : ℕ) (e : Env) (xs : List Item) (vs : List Cell) (r : Resume) → case_sort (case_of db code d e xs vs r) ≡ sort_of r
+kind-of-case : (db : Database) (code : Goals) (d : ℕ) (e : Env) (xs : List Portion) (vs : List Cell) (r : Resume) → case_sort (case_of db code d e xs vs r) ≡ sort_of r
 kind-of-case db code d e xs vs (resumes.Clauses c) = refl
 kind-of-case db code d e xs vs (resumes.Walk w) = refl
 kind-of-case db code d e xs vs (resumes.Answers a) = refl
@@ -335,12 +335,12 @@ first-precedes ks below k es is many f = subst (λ xs. Precedes xs k es) (sym is
 pub precedes-bound : (ks : List Sort) (k : ℕ) (σ : ℕ → Tree) (es : List Element) → Precedes ks k es → Precedes ks k (bind_goals σ es)
 precedes-bound ks k σ es p = ((p.0.0, p.0.1, levels-bound ks σ es (suc k) p.0.2), transacts-bound σ es ∙ p.1)
 
-pub resolve-fits : (ks : List Sort) (k n : ℕ) (t : Tree) (es : List Element) (x : Clause) (q : Place) → Precedes ks k es → resolve k n t es x ≡ Some q → FitsIn ks q.goals
+pub resolve-fits : (ks : List Sort) (k n : ℕ) (t : Tree) (es : List Element) (x : Clause) (q : Resolvent) → Precedes ks k es → resolve k n t es x ≡ Some q → FitsIn ks q.goals
 resolve-fits ks k n t es x q p is = go (unify t (shift n x.head)) is
   where
     go : (o : Option (ℕ → Tree)) → option_map (λ (σ : ℕ → Tree). record { goals = before_rest (is_true x.body) k (bind σ (shift n x.body)) (bind_goals σ es); variables = n + x.variables }) o ≡ Some q → FitsIn ks q.goals
     go None e = absurd (cc)
     go (Some σ) e =
-        let made : Place = record { goals = before_rest (is_true x.body) k (bind σ (shift n x.body)) (bind_goals σ es); variables = n + x.variables } in
+        let made : Resolvent = record { goals = before_rest (is_true x.body) k (bind σ (shift n x.body)) (bind_goals σ es); variables = n + x.variables } in
         let same : made ≡ q = cc in
-        subst (λ (y : Place). FitsIn ks y.goals) same (before-fits ks (is_true x.body) k (bind σ (shift n x.body)) (bind_goals σ es) (precedes-bound ks k σ es p))
+        subst (λ (y : Resolvent). FitsIn ks y.goals) same (before-fits ks (is_true x.body) k (bind σ (shift n x.body)) (bind_goals σ es) (precedes-bound ks k σ es p))

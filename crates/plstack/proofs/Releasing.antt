@@ -10,8 +10,8 @@ use Rattle.plenv.specs.declared.slot.Mark.{Mark}
 use Rattle.plenv.specs.Env.{Env, IsEnv, IsMark, cut, slot_term}
 use Rattle.plenv.specs.Changes.{released}
 use Rattle.plenv.proofs.Bounding.{cut-released, IsMark-released}
-use Rattle.pllinks.specs.declared.item.Item.{Item}
-use Rattle.pllinks.specs.declared.item.Item.TheVariants as items
+use Rattle.pllinks.specs.declared.item.Portion.{Portion}
+use Rattle.pllinks.specs.declared.item.Portion.TheVariants as items
 use Rattle.pllinks.specs.declared.link.Link.{Link}
 use Rattle.pllinks.specs.declared.link.Continuation.{Continuation}
 use Rattle.pllinks.specs.Lists.{Goals, AreItems}
@@ -31,11 +31,11 @@ use Rattle.plstack.specs.Levels.{kinds_of}
 use Rattle.plstack.proofs.Naming.{fits-env, visited-env}
 
 -- items that ask for no more than the first n slots
-abbrev pub AskFor : ℕ → List Item → Type 0
+abbrev pub AskFor : ℕ → List Portion → Type 0
 AskFor n [] = Unit {0}
 AskFor n (x ∷ xs) = (slots_in x ≤ n) × AskFor n xs
 
-ask-more : (n m : ℕ) (xs : List Item) → n ≤ m → AskFor n xs → AskFor m xs
+ask-more : (n m : ℕ) (xs : List Portion) → n ≤ m → AskFor n xs → AskFor m xs
 ask-more n m [] le a = tt
 ask-more n m (x ∷ xs) le a = (le_trans a.0 le, ask-more n m xs le a.1)
 
@@ -56,9 +56,9 @@ list-asks links l chain le = (
 )
 
 -- they are there still
-pub items-within : (code : Goals) (h : Store) (n m k : ℕ) (xs : List Item) → ((i : ℕ) → i ≤ n → i ≤ m → i ≤ k) → AskFor m xs → AreItems code h n xs → AreItems code h k xs
+pub items-within : (code : Goals) (h : Store) (n m k : ℕ) (xs : List Portion) → ((i : ℕ) → i ≤ n → i ≤ m → i ≤ k) → AskFor m xs → AreItems code h n xs → AreItems code h k xs
 items-within code h n m k [] le a is = tt
-items-within code h n m k (items.Run r ∷ xs) le a is = ((is.0.0, le r.«end» is.0.1 a.0), items-within code h n m k xs le a.1 is.1)
+items-within code h n m k (items.Clause r ∷ xs) le a is = ((is.0.0, le r.«end» is.0.1 a.0), items-within code h n m k xs le a.1 is.1)
 items-within code h n m k (items.Goal l v ∷ xs) le a is = (is.0, items-within code h n m k xs le a.1 is.1)
 items-within code h n m k (items.Marker x l ∷ xs) le a is = (is.0, items-within code h n m k xs le a.1 is.1)
 

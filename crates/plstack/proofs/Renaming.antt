@@ -10,12 +10,12 @@ use Rattle.plsearch.specs.Types.{Element, Choice, Handle, Undo}
 use Rattle.plsearch.specs.Moves.{resolve}
 use Rattle.plsearch.specs.Rows.{solved}
 use Rattle.plbuiltin.specs.Solution.{Solution}
-use Rattle.plgenerator.specs.declared.turn.Turn.{Turn}
+use Rattle.plgenerator.specs.declared.turn.Remaining.{Remaining}
 use Rattle.plgenerator.proofs.Staying.{turn_stays, left_stays}
 use Rattle.plenv.specs.declared.slot.Slot.{Slot}
 use Rattle.plenv.specs.declared.slot.Slot.TheVariants.{Free, Set}
 use Rattle.plenv.specs.Env.{Env, IsEnv, IsSlot, slot_at, slot_term, renamed}
-use Rattle.pllinks.specs.declared.item.Item.{Item}
+use Rattle.pllinks.specs.declared.item.Portion.{Portion}
 use Rattle.pllinks.specs.Lists.{Goals, all_elements, AreItems}
 use Rattle.pllinks.specs.Changing.{Agrees}
 use Rattle.pllinks.proofs.Changing.{items-agree}
@@ -56,14 +56,14 @@ module _ (e : Env) (t : Table) (is : IsEnv e) (table : IsTable t) (more : Extend
   resume-renamed vs (resumes.Handle x) i = (handled-same e.heap (renamed_heap e.heap t) stays.values x i).0
   resume-renamed vs resumes.Undo i = tt
 
-  module _ (code : Goals) (xs : List Item) (items : AreItems code e.heap (length e.slots) xs) where
+  module _ (code : Goals) (xs : List Portion) (items : AreItems code e.heap (length e.slots) xs) where
     goals-renamed : all_elements code (renamed e t) xs ≡ all_elements code e xs
     goals-renamed = (items-agree code (length e.slots) e (renamed e t) agrees-renamed xs items).1
 
     pub candidates-renamed : (d : ℕ) (g g' : Tree) (ys : Tree → List Candidate) → g ≡ g' → candidates_left d (renamed e t) g (all_elements code (renamed e t) xs) (ys g) ≡ candidates_left d e g' (all_elements code e xs) (ys g')
     candidates-renamed d g g' ys same = ap₂ (λ (x : Tree) (es : List Element). filter_map (tried d e.count x es) (ys x)) same goals-renamed
 
-    pub answers-renamed : (vs : List Cell) → AreValues e.heap vs → (turn : Turn) →
+    pub answers-renamed : (vs : List Cell) → AreValues e.heap vs → (turn : Remaining) →
         answers_left (renamed e t) vs (all_elements code (renamed e t) xs) turn ≡ answers_left e vs (all_elements code e xs) turn
     answers-renamed vs fit turn = ap₂ (λ (es : List Element) (ss : List Solution). filter_map (solved es e.count) ss) goals-renamed (left_stays e.heap (renamed_heap e.heap t) stays.values vs fit turn)
 

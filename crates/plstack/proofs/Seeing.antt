@@ -11,7 +11,7 @@ use Rattle.plsearch.specs.Engine.{deeper}
 use Rattle.plviews.specs.Lookups.{rest_at}
 use Rattle.plviews.specs.declared.view.View.{View}
 use Rattle.plenv.specs.Env.{Env, cut}
-use Rattle.pllinks.specs.declared.item.Item.{Item}
+use Rattle.pllinks.specs.declared.item.Portion.{Portion}
 use Rattle.pllinks.specs.declared.link.Link.{Link}
 use Rattle.pllinks.specs.declared.link.Continuation.{Continuation}
 use Rattle.pllinks.specs.Lists.{Goals, all_elements}
@@ -162,7 +162,7 @@ module _ (db : Database) (own : List Update) where
   left-same latest u t (spots.At v x r) same s = ap (λ y. map (candidate_of u) (onward y (indicator (head_in u t)) x r)) (seen-same latest v same s)
   left-same latest u t (spots.Known v x y) same s = ap (λ z. map (candidate_of u) (alive_as z x ++ onward_if z (indicator (head_in u t)) y)) (seen-same latest v same s)
 
-  case-same : (latest : View) (code : Goals) (d : ℕ) (e : Env) (xs : List Item) (vs : List Cell) (r : Resume) → IsOwnSoFar latest db own → IsSeen latest r → case_of with-own code d e xs vs r ≡ case_of db code d e xs vs r
+  case-same : (latest : View) (code : Goals) (d : ℕ) (e : Env) (xs : List Portion) (vs : List Cell) (r : Resume) → IsOwnSoFar latest db own → IsSeen latest r → case_of with-own code d e xs vs r ≡ case_of db code d e xs vs r
   case-same latest code d e xs vs (resumes.Clauses c) same s = refl
   case-same latest code d e xs vs (resumes.Walk w) same s = ap (λ ys. Choice (candidates_left d e (value e.heap w.goal) (all_elements code e xs) ys)) (left-same latest w.uses (value e.heap w.goal) w.spot same s)
   case-same latest code d e xs vs (resumes.Answers a) same s = refl

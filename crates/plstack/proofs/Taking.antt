@@ -11,8 +11,8 @@ use Rattle.plsearch.specs.Types.{Element}
 use Rattle.plsearch.specs.Lists.{bind_goals}
 use Rattle.plsearch.specs.Rows.{solved}
 use Rattle.plgenerator.specs.declared.generator.Found.{Found}
-use Rattle.plgenerator.specs.declared.turn.Turn.{Turn}
-use Rattle.plgenerator.specs.Answers.{left, left_if, IsTurn, Finds, solution_of}
+use Rattle.plgenerator.specs.declared.turn.Remaining.{Remaining}
+use Rattle.plgenerator.specs.Answers.{left, left_if, IsRemaining, Finds, solution_of}
 use Rattle.plgenerator.specs.Fitting.{fitting, fitting_by}
 use Rattle.plgenerator.proofs.Staying.{left_stays, turn_stays, turn_stood}
 use Rattle.plenv.specs.Env.{Env, IsEnv}
@@ -37,20 +37,20 @@ fitting-solved es n (s ∷ ss) = go (unify s.left s.right) refl (fitting-solved 
     go (Some σ) e same = ap (λ u. filter_map (solved es n) (fitting_by u s (fitting ss))) e ∙ ap (cons_option (solved es n s)) same
 
 -- those that were passed over do not fit, and all stands for what it did
-pub record Passed (old : Env) (vs : List Cell) (turn : Turn) (now : Env) (next : Turn) : Type 0 where
+pub record Passed (old : Env) (vs : List Cell) (turn : Remaining) (now : Env) (next : Remaining) : Type 0 where
   pub stays : Stays old now
-  pub turns : IsTurn old.heap vs next
+  pub turns : IsRemaining old.heap vs next
   pub same : (es : List Element) → answers_left old vs es turn ≡ answers_left old vs es next
 
-pub passed-none : (old : Env) (vs : List Cell) (turn : Turn) → IsTurn old.heap vs turn → Passed old vs turn old turn
+pub passed-none : (old : Env) (vs : List Cell) (turn : Remaining) → IsRemaining old.heap vs turn → Passed old vs turn old turn
 passed-none old vs turn is = record { stays = Stays-refl old; turns = is; same = λ es. refl }
 
-module _ (old : Env) (vs : List Cell) (fit : AreValues old.heap vs) (turn : Turn) where
-  module _ (now : Env) (next : Turn) (p : Passed old vs turn now next) where
+module _ (old : Env) (vs : List Cell) (fit : AreValues old.heap vs) (turn : Remaining) where
+  module _ (now : Env) (next : Remaining) (p : Passed old vs turn now next) where
     pub values-now : AreValues now.heap vs
     values-now = (values_stay old.heap now.heap vs p.stays.extends.values fit).0
 
-    pub turn-now : IsTurn now.heap vs next
+    pub turn-now : IsRemaining now.heap vs next
     turn-now = turn_stays old.heap now.heap p.stays.extends.values vs fit next p.turns
 
     -- no answer fits
@@ -65,21 +65,21 @@ module _ (old : Env) (vs : List Cell) (fit : AreValues old.heap vs) (turn : Turn
     }
 
     module _ (f : Found) (finds : Finds now.heap vs next f) where
-      rest-if : (o : Option Turn) (es : List Element) → filter_map (solved es old.count) (left_if now.heap vs o) ≡ answers_if old vs es o
+      rest-if : (o : Option Remaining) (es : List Element) → filter_map (solved es old.count) (left_if now.heap vs o) ≡ answers_if old vs es o
       rest-if None es = refl
       rest-if (Some t) es = ap (filter_map (solved es old.count)) (left_stays old.heap now.heap p.stays.extends.values vs fit t)
 
-      stood : (o : Option Turn) → IfSome o (IsTurn now.heap vs) → IfSome o (IsTurn old.heap vs)
+      stood : (o : Option Remaining) → IfSome o (IsRemaining now.heap vs) → IfSome o (IsRemaining old.heap vs)
       stood None i = tt
       stood (Some t) i = turn_stood old.heap now.heap p.stays.extends.values vs fit t i
 
-      pub turns-then : IfSome f.rest (IsTurn old.heap vs)
+      pub turns-then : IfSome f.rest (IsRemaining old.heap vs)
       turns-then = stood f.rest finds.rest
 
       pub fewer-then : IfSome f.rest (λ rest. length (left old.heap vs rest) < length (left old.heap vs next))
       fewer-then = go f.rest finds.fewer
         where
-          go : (o : Option Turn) → IfSome o (λ rest. length (left now.heap vs rest) < length (left now.heap vs next)) → IfSome o (λ rest. length (left old.heap vs rest) < length (left old.heap vs next))
+          go : (o : Option Remaining) → IfSome o (λ rest. length (left now.heap vs rest) < length (left now.heap vs next)) → IfSome o (λ rest. length (left old.heap vs rest) < length (left old.heap vs next))
           go None less = tt
           go (Some t) less = rw (sym (left_stays old.heap now.heap p.stays.extends.values vs fit t), sym (left_stays old.heap now.heap p.stays.extends.values vs fit next)) less
 
@@ -120,7 +120,7 @@ module _ (old : Env) (vs : List Cell) (fit : AreValues old.heap vs) (turn : Turn
         pub passes-last : (new : Env) → Stays old new → f.rest ≡ None → TakesNone old new vs turn
         passes-last new stays last = record { none = λ es. passed-one es ∙ ap (answers_if old vs es) last; stays = stays }
 
-        pub passes : (new : Env) → Stays old new → (rest : Turn) → f.rest ≡ Some rest → Passed old vs turn new rest
+        pub passes : (new : Env) → Stays old new → (rest : Remaining) → f.rest ≡ Some rest → Passed old vs turn new rest
         passes new stays rest is = record {
           stays = stays;
           turns = rw is at turns-then;

@@ -8,7 +8,7 @@ use Rattle.platoms.proofs.Extending.{Extends-trans as extends-names}
 use Rattle.plclause.specs.Clause.{Clause}
 use Rattle.plcells.specs.declared.cell.Cell.{Cell}
 use Rattle.plcells.specs.Store.{IsValue, value}
-use Rattle.plsearch.specs.Types.{Element, Place, Choice}
+use Rattle.plsearch.specs.Types.{Element, Resolvent, Choice}
 use Rattle.plsearch.specs.Lists.{bind_goals}
 use Rattle.plsearch.specs.Moves.{before_rest, is_true, resolve}
 use Rattle.plsearch.specs.Engine.{deeper}
@@ -180,7 +180,7 @@ module _ (d n : ℕ) (t : Tree) (es : List Element) (x : Candidate) (xs : List C
   passed e =
       ap (λ o. cons_option (option_map (place_asked x.erased) (option_map (λ (σ : ℕ → Tree). record { goals = before_rest (is_true (clause_by x.uses x.clause).body) d (bind σ (shift n (clause_by x.uses x.clause).body)) (bind_goals σ es); variables = n + (clause_by x.uses x.clause).variables }) o)) (filter_map (tried d n t es) xs)) e
 
-  pub taken : (q : Place) → resolve d n t es (clause_by x.uses x.clause) ≡ Some q → filter_map (tried d n t es) (x ∷ xs) ≡ place_asked x.erased q ∷ filter_map (tried d n t es) xs
+  pub taken : (q : Resolvent) → resolve d n t es (clause_by x.uses x.clause) ≡ Some q → filter_map (tried d n t es) (x ∷ xs) ≡ place_asked x.erased q ∷ filter_map (tried d n t es) xs
   taken q e = ap (λ o. cons_option (option_map (place_asked x.erased) o) (filter_map (tried d n t es) xs)) e
 
 -- what was left of a walk where all is as it was at its opening
@@ -198,7 +198,7 @@ module _ (db : Database) (s mid new : State) (p : Point) (w : Walk) (at : AtWalk
   abbrev k : ℕ
   k = deeper goes.below 0
 
-  abbrev others : List Place
+  abbrev others : List Resolvent
   others = filter_map (tried k s.env.count t (goals_of s p.list)) (left_if db w.uses t next)
 
   pub was-left : cases_of db s ≡ Choice (filter_map (tried k s.env.count t (goals_of s p.list)) (x ∷ left_if db w.uses t next)) ∷ goes.below

@@ -2,10 +2,10 @@
 use Rattle.std.specs.Prelude.{◌≡◌, ℕ, List, [], ◌∷◌, ◌++◌, reverse, Option, Some, None, IfSome}
 use Rattle.plcells.specs.declared.cell.Cell.{Cell}
 use Rattle.plcells.specs.declared.equation.Equation.{Equation}
-use Rattle.plsearch.specs.Types.{Element, Place, Choice}
+use Rattle.plsearch.specs.Types.{Element, Resolvent, Choice}
 use Rattle.plsearch.specs.Lists.{bind_goals}
-use Rattle.plgenerator.specs.declared.turn.Turn.{Turn}
-use Rattle.plgenerator.specs.Answers.{IsTurn}
+use Rattle.plgenerator.specs.declared.turn.Remaining.{Remaining}
+use Rattle.plgenerator.specs.Answers.{IsRemaining}
 use Rattle.plenv.specs.Env.{Env, IsEnv}
 use Rattle.plenv.specs.Changes.{Stays}
 use Rattle.plenv.specs.Solving.{Solves}
@@ -17,37 +17,37 @@ use Rattle.plstack.specs.declared.frame.Frame.TheVariants.{Open}
 use Rattle.plstack.specs.Places.{Database, answers_left}
 use Rattle.plstack.specs.State.{State, goals_of, place_of, cases_of, CountsUp}
 
-abbrev pub answers_if : Env → List Cell → List Element → Option Turn → List Place
+abbrev pub answers_if : Env → List Cell → List Element → Option Remaining → List Resolvent
 answers_if e vs rest None = []
 answers_if e vs rest (Some turn) = answers_left e vs rest turn
 
 -- the first answer that is left and fits: what was put for variables is in each value and slot, and it is before the answers behind it
-pub record TakesAnswer (old new : Env) (vs : List Cell) (turn : Turn) (rest : Option Turn) : Type 0 where
+pub record TakesAnswer (old new : Env) (vs : List Cell) (turn : Remaining) (rest : Option Remaining) : Type 0 where
   pub before : Env
   pub equation : Equation
   pub stays : Stays old before
   pub env : IsEnv before
   pub solves : Solves before new equation
-  pub turns : IfSome rest (IsTurn old.heap vs)
+  pub turns : IfSome rest (IsRemaining old.heap vs)
   pub places : (es : List Element) → answers_left old vs es turn ≡ record { goals = bind_goals solves.unifier es; variables = new.count } ∷ answers_if old vs es rest
 
 -- none of the answers that are left fits, and all stands for what it did
-pub record TakesNone (old new : Env) (vs : List Cell) (turn : Turn) : Type 0 where
+pub record TakesNone (old new : Env) (vs : List Cell) (turn : Remaining) : Type 0 where
   pub none : (es : List Element) → answers_left old vs es turn ≡ []
   pub stays : Stays old new
 
 -- the case of the answers of a turn that are left, or one more choice with nothing left
-abbrev pub PushesAnswers : Point → ℕ → Option Turn → List Frame → List Frame → Type 0
+abbrev pub PushesAnswers : Point → ℕ → Option Remaining → List Frame → List Frame → Type 0
 PushesAnswers p count (Some turn) old new = new ≡ old ++ Open p (resumes.Answers (record { count = count; turn = turn })) ∷ []
 PushesAnswers p count None old new = CountsUp 1 (reverse old) (reverse new)
 
 -- a call visits the list of its first answer, in a choice of the others
-pub record Answered (db : Database) (old new : State) (vs : List Cell) (list : Continuation) (turn : Turn) : Type 0 where
-  pub others : List Place
+pub record Answered (db : Database) (old new : State) (vs : List Cell) (list : Continuation) (turn : Remaining) : Type 0 where
+  pub others : List Resolvent
   pub places : answers_left old.env vs (goals_of old list) turn ≡ place_of new ∷ others
   pub cases : cases_of db new ≡ Choice others ∷ cases_of db old
 
 -- it has no answer that fits, and the cases are as they were
-pub record Unanswered (db : Database) (old new : State) (vs : List Cell) (list : Continuation) (turn : Turn) : Type 0 where
+pub record Unanswered (db : Database) (old new : State) (vs : List Cell) (list : Continuation) (turn : Remaining) : Type 0 where
   pub none : answers_left old.env vs (goals_of old list) turn ≡ []
   pub cases : cases_of db new ≡ cases_of db old

@@ -7,11 +7,11 @@ use Rattle.plcode.specs.Steps.{Args}
 use Rattle.plcode.specs.Callees.{IsProcedure}
 use Rattle.plenv.specs.Env.{over}
 use Rattle.plexpression.specs.declared.pair.Pair.{Pair}
-use Rattle.pllinks.specs.declared.item.Run.{Run}
+use Rattle.pllinks.specs.declared.item.ClauseGoals.{ClauseGoals}
 use Rattle.plstack.specs.State.{State}
 
 -- the term of a node; its variables have slots among those of a run
-pub record IsArgument (s : State) (r : Run) (node : ℕ) (t : Tree) : Type 0 where
+pub record IsArgument (s : State) (r : ClauseGoals) (node : ℕ) (t : Tree) : Type 0 where
   pub stand : Args s.basis.code.text node (t ∷ [])
   pub width : ℕ
   pub below : AllBelow width t
@@ -20,10 +20,10 @@ pub record IsArgument (s : State) (r : Run) (node : ℕ) (t : Tree) : Type 0 whe
 
 -- the terms of nodes stay, with what is put for their variables
 abbrev pub KeepsArguments : State → State → Type 0
-KeepsArguments old new = (r : Run) (node : ℕ) (t : Tree) → IsArgument old r node t → IsArgument new r node t × (bind (over new.env r.base) t ≡ bind (over old.env r.base) t)
+KeepsArguments old new = (r : ClauseGoals) (node : ℕ) (t : Tree) → IsArgument old r node t → IsArgument new r node t × (bind (over new.env r.base) t ≡ bind (over old.env r.base) t)
 
 -- a term is the compound of the terms of two nodes, with the functor of a number
-pub record IsPair (s : State) (r : Run) (t : Tree) (p : Pair) : Type 0 where
+pub record IsPair (s : State) (r : ClauseGoals) (t : Tree) (p : Pair) : Type 0 where
   pub name : List ℕ
   pub left : Tree
   pub right : Tree

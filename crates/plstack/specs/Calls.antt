@@ -2,7 +2,7 @@
 use Rattle.std.specs.Prelude.{◌≡◌, List, [], ◌∷◌, ◌++◌}
 use Rattle.plterm.specs.Tree.{Tree}
 use Rattle.plclause.specs.Clause.{Clause}
-use Rattle.plsearch.specs.Types.{Place, Choice}
+use Rattle.plsearch.specs.Types.{Resolvent, Choice}
 use Rattle.plsearch.specs.Engine.{deeper}
 use Rattle.plenv.specs.Env.{IsEnv}
 use Rattle.plenv.specs.Changes.{Keeps as KeepsEnv}
@@ -21,12 +21,12 @@ pub record Goes (old new : State) : Type 0 where
   pub chain : IsChain new.links
 
 -- what a call of a goal has, before a list, by some clauses, as a case of the level of a new one
-abbrev pub places_of : Database → State → Tree → Continuation → List Clause → List Place
+abbrev pub places_of : Database → State → Tree → Continuation → List Clause → List Resolvent
 places_of db s t rest cs = places_left (deeper (cases_of db s) 0) s.env t (goals_of s rest) cs
 
 -- a call visits its first place, in a choice of the others
 pub record Calls (db : Database) (old new : State) (t : Tree) (rest : Continuation) (cs : List Clause) : Type 0 where
-  pub others : List Place
+  pub others : List Resolvent
   pub places : places_of db old t rest cs ≡ place_of new ∷ others
   pub cases : cases_of db new ≡ Choice others ∷ cases_of db old
 

@@ -1,7 +1,7 @@
 -- What a cut gives up.
 use Rattle.std.specs.Prelude.{◌≡◌, ◌<◌, ◌≤◌, ◌+◌, ℕ, suc, List, [], ◌∷◌, ◌++◌, length, get_or, take, reverse}
 use Rattle.plterm.specs.Tree.{Tree}
-use Rattle.plsearch.specs.Types.{Place, Catch, Case, Choice, Mark, Handle}
+use Rattle.plsearch.specs.Types.{Resolvent, Catch, Case, Choice, Mark, Handle}
 use Rattle.plsearch.specs.Engine.{deeper}
 use Rattle.plsearch.specs.Machines.Levels.{AreAtMost, emptied}
 use Rattle.plenv.specs.Env.{IsWithin}
@@ -53,7 +53,7 @@ pub record IsGivenUp (s : State) (i : ℕ) (m : Marks) : Type 0 where
 -- the choice at the level and all cases inside of it are emptied, and so is the mark
 pub record Empties (db : Database) (old new : State) (level : ℕ) : Type 0 where
   pub inside : List Case
-  pub places : List Place
+  pub places : List Resolvent
   pub below : List Case
   pub was : cases_of db old ≡ inside ++ Choice places ∷ below
   pub at : deeper below 0 ≡ level
@@ -62,7 +62,7 @@ pub record Empties (db : Database) (old new : State) (level : ℕ) : Type 0 wher
 -- the choice at the level and all cases inside of it are emptied
 pub record EmptiesTo (db : Database) (old new : State) (level : ℕ) : Type 0 where
   pub inside : List Case
-  pub places : List Place
+  pub places : List Resolvent
   pub below : List Case
   pub was : cases_of db old ≡ inside ++ Choice places ∷ below
   pub at : deeper below 0 ≡ level
@@ -124,7 +124,7 @@ pub record CatcherLeft (db : Database) (old new : State) (level : ℕ) : Type 0 
   pub inside : ℕ
   pub catcher : Tree
   pub recovery : Tree
-  pub place : Place
+  pub place : Resolvent
   pub below : List Case
   pub was : cases_of db old ≡ plain inside (Handle (Catch catcher recovery) place ∷ below)
   pub at : deeper below 0 ≡ level

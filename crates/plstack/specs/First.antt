@@ -11,7 +11,7 @@ use Rattle.plcode.specs.declared.op.Step.{Step}
 use Rattle.plcode.specs.Converted.{IsConverted}
 use Rattle.plcode.specs.Steps.{Text, of_two, step_at, IsFor, Runs}
 use Rattle.plenv.specs.Env.{over}
-use Rattle.pllinks.specs.declared.item.Run.{Run}
+use Rattle.pllinks.specs.declared.item.ClauseGoals.{ClauseGoals}
 use Rattle.pllinks.specs.declared.item.MarkerKind.{MarkerKind}
 use Rattle.pllinks.specs.declared.link.Continuation.{Continuation}
 use Rattle.pllinks.specs.Lists.{marker_of, run_goals, IsMarker}
@@ -38,7 +38,7 @@ abbrev pub IsShort : State → Continuation → Type 0
 IsShort s l = run_goals (goals_in s) l.run ≡ [] → IsDone l.run
 
 -- goals that begin with one of a clause's body, by its step, whose variables have slots among those of the run, and the list behind it
-pub record AtStep (s : State) (es : List Element) (r : Run) (x : Step) (rest : Continuation) : Type 0 where
+pub record AtStep (s : State) (es : List Element) (r : ClauseGoals) (x : Step) (rest : Continuation) : Type 0 where
   pub goal : Tree
   pub is : IsFor s.basis.code.text r.position x.op x.goal goal
   pub is_converted : IsConverted goal

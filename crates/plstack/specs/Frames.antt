@@ -3,7 +3,7 @@ use Rattle.std.specs.Prelude.{◌≡◌, ℕ, ◌+◌, ◌<◌, ◌≤◌, List,
 use Rattle.std.specs.Bool.{⊤}
 use Rattle.plcells.specs.declared.cell.Cell.{Cell}
 use Rattle.plcells.specs.Store.{Store, IsValue, AreValues}
-use Rattle.plgenerator.specs.Answers.{IsTurn}
+use Rattle.plgenerator.specs.Answers.{IsRemaining}
 use Rattle.plviews.specs.declared.view.View.{View}
 use Rattle.plenv.specs.Env.{Env, cut, IsMark}
 use Rattle.plenv.specs.Marks.{IsOlder as IsEnvOlder}
@@ -90,7 +90,7 @@ IsHandled h (handlers.Gather v) = IsValue h v
 abbrev pub IsResume : Store → List Cell → Resume → Type 0
 IsResume h vs (resumes.Clauses c) = AreValues h vs
 IsResume h vs (resumes.Walk w) = IsValue h w.goal
-IsResume h vs (resumes.Answers a) = AreValues h vs × IsTurn h vs a.turn
+IsResume h vs (resumes.Answers a) = AreValues h vs × IsRemaining h vs a.turn
 IsResume h vs resumes.List = ⊤
 IsResume h vs (resumes.Handle x) = IsHandled h x
 IsResume h vs resumes.Undo = ⊤

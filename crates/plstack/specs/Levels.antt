@@ -4,16 +4,16 @@ use Rattle.std.specs.Bool.{⊤}
 use Rattle.plsearch.specs.Types.{Kind, Commit, Never, Until, Collect, Transact, Element, Goal, Marker, Raise, Asking, Handler, Catch, Gather, Undo, Case, Choice, Mark, Handle}
 use Rattle.plsearch.specs.Engine.{deeper}
 use Rattle.plsearch.specs.Handlers.{has}
-use Rattle.pllinks.specs.declared.item.Item.{Item}
-use Rattle.pllinks.specs.declared.item.Item.TheVariants as items
+use Rattle.pllinks.specs.declared.item.Portion.{Portion}
+use Rattle.pllinks.specs.declared.item.Portion.TheVariants as items
 use Rattle.plstack.specs.declared.frame.Resume.{Resume}
 use Rattle.plstack.specs.declared.frame.Resume.TheVariants as resumes
 use Rattle.plstack.specs.declared.frame.Frame.{Frame}
 use Rattle.plstack.specs.declared.frame.Frame.TheVariants.{Plain, Open}
 
 -- that of an item, if it is a marker
-abbrev pub levels_of : Item → List ℕ
-levels_of (items.Run r) = []
+abbrev pub levels_of : Portion → List ℕ
+levels_of (items.Clause r) = []
 levels_of (items.Goal k v) = []
 levels_of (items.Marker m l) = l ∷ []
 

@@ -1,6 +1,6 @@
 -- Links that are put behind the others.
 use Rattle.std.specs.Prelude.{◌≡◌, List, ◌++◌, length}
-use Rattle.pllinks.specs.declared.item.Item.{Item}
+use Rattle.pllinks.specs.declared.item.Portion.{Portion}
 use Rattle.pllinks.specs.declared.link.Link.{Link}
 use Rattle.pllinks.specs.declared.link.Continuation.{Continuation}
 use Rattle.pllinks.specs.Lists.{elements, IsItem}
@@ -8,7 +8,7 @@ use Rattle.pllinks.specs.Links.{IsChain}
 use Rattle.plstack.specs.State.{State, IsState, IsList, AddsList, goals_in, goals_of}
 
 -- a list of an item before a list that is there, of each stack that has these links
-pub record LinksItem (old new : List Link) (x : Item) (rest list : Continuation) : Type 0 where
+pub record LinksItem (old new : List Link) (x : Portion) (rest list : Continuation) : Type 0 where
   pub more : List Link
   pub is : new ≡ old ++ more
   pub chain : IsChain old → IsChain new

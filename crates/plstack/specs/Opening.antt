@@ -3,7 +3,7 @@ use Rattle.std.specs.Prelude.{◌≡◌, ◌<◌, ℕ, List, [], ◌∷◌, ◌+
 use Rattle.plterm.specs.Tree.{Tree}
 use Rattle.plcells.specs.declared.cell.Cell.{Cell}
 use Rattle.plcells.specs.Store.{IsValue, value}
-use Rattle.plsearch.specs.Types.{Place, Handler, Catch, Gather, Undo, Case, Choice, Handle}
+use Rattle.plsearch.specs.Types.{Resolvent, Handler, Catch, Gather, Undo, Case, Choice, Handle}
 use Rattle.plsearch.specs.Rows.{branch}
 use Rattle.plsearch.specs.Engine.{deeper}
 use Rattle.pllinks.specs.declared.link.Continuation.{Continuation}
@@ -85,9 +85,9 @@ closing resumes.Undo = closings.Transaction
 
 -- the innermost case was closed
 abbrev pub ClosedAs : Database → State → State → Closed → Type 0
-ClosedAs db old new closings.Choice = (ps : List Place) × (cases_of db old ≡ Choice ps ∷ cases_of db new) × ((HasClauses old → ⊥) → (HasWalk old → ⊥) → (HasBranch old → ⊥) → (HasAnswers old → ⊥) → ps ≡ [])
-ClosedAs db old new closings.Handler = (h : Handler) × (p : Place) × (cases_of db old ≡ Handle h p ∷ cases_of db new) × ((c r : Tree) → h ≡ Catch c r → (HasCatcher old → ⊥) → ⊥) × ((l : Tree) → h ≡ Gather l → (HasGatherer old → ⊥) → ⊥) × (h ≡ Undo → ⊥)
-ClosedAs db old new closings.Transaction = (p : Place) × (cases_of db old ≡ Handle Undo p ∷ cases_of db new) × HasUndo old
+ClosedAs db old new closings.Choice = (ps : List Resolvent) × (cases_of db old ≡ Choice ps ∷ cases_of db new) × ((HasClauses old → ⊥) → (HasWalk old → ⊥) → (HasBranch old → ⊥) → (HasAnswers old → ⊥) → ps ≡ [])
+ClosedAs db old new closings.Handler = (h : Handler) × (p : Resolvent) × (cases_of db old ≡ Handle h p ∷ cases_of db new) × ((c r : Tree) → h ≡ Catch c r → (HasCatcher old → ⊥) → ⊥) × ((l : Tree) → h ≡ Gather l → (HasGatherer old → ⊥) → ⊥) × (h ≡ Undo → ⊥)
+ClosedAs db old new closings.Transaction = (p : Resolvent) × (cases_of db old ≡ Handle Undo p ∷ cases_of db new) × HasUndo old
 
 -- so many choices with nothing left were closed, the innermost cases
 pub record ClosesPlain (old new : State) : Type 0 where

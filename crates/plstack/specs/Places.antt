@@ -15,15 +15,15 @@ use Rattle.plviews.specs.Views.{Sight, sight, whole}
 use Rattle.plviews.specs.Lookups.{rest_at}
 use Rattle.plcells.specs.declared.cell.Cell.{Cell}
 use Rattle.plcells.specs.Store.{Store, value}
-use Rattle.plsearch.specs.Types.{Asking, Element, Erase, Place, Handler, Catch, Gather, Undo, Case, Choice, Handle}
+use Rattle.plsearch.specs.Types.{Asking, Element, Erase, Resolvent, Handler, Catch, Gather, Undo, Case, Choice, Handle}
 use Rattle.plsearch.specs.Moves.{resolve}
 use Rattle.plsearch.specs.Lookups.{as_fact}
 use Rattle.plsearch.specs.Rows.{solved}
-use Rattle.plgenerator.specs.declared.turn.Turn.{Turn}
+use Rattle.plgenerator.specs.declared.turn.Remaining.{Remaining}
 use Rattle.plgenerator.specs.Answers.{left}
 use Rattle.plsearch.specs.Engine.{deeper}
 use Rattle.plenv.specs.Env.{Env, cut}
-use Rattle.pllinks.specs.declared.item.Item.{Item}
+use Rattle.pllinks.specs.declared.item.Portion.{Portion}
 use Rattle.pllinks.specs.declared.link.Link.{Link}
 use Rattle.pllinks.specs.Lists.{Goals, all_elements}
 use Rattle.pllinks.specs.Links.{items_of}
@@ -60,7 +60,7 @@ abbrev pub IsOwnSoFar : View → Database → List Update → Type 0
 IsOwnSoFar v db own = take v.count own ≡ take v.count db.own
 
 -- the place of a list, by its items
-abbrev pub place_of_items : Goals → Env → List Item → Place
+abbrev pub place_of_items : Goals → Env → List Portion → Resolvent
 place_of_items code e xs = record { goals = all_elements code e xs; variables = e.count }
 
 -- a goal by its name, and the values of its arguments
@@ -69,7 +69,7 @@ called h name [] = atom name
 called h name (v ∷ vs) = compound name (trees (map (value h) (v ∷ vs)))
 
 -- what is left of a call at the level d: of a goal, before a list, by some clauses
-abbrev pub places_left : ℕ → Env → Tree → List Element → List Clause → List Place
+abbrev pub places_left : ℕ → Env → Tree → List Element → List Clause → List Resolvent
 places_left d e t rest cs = filter_map (resolve d e.count t rest) cs
 
 -- a list before which a clause is to be erased, if there is one
@@ -77,7 +77,7 @@ abbrev pub first_asked : Option ClauseName → List Element → List Element
 first_asked None es = es
 first_asked (Some x) es = Asking (Erase x) ∷ es
 
-abbrev pub place_asked : Option ClauseName → Place → Place
+abbrev pub place_asked : Option ClauseName → Resolvent → Resolvent
 place_asked x p = record { goals = first_asked x p.goals; variables = p.variables }
 
 -- a clause, by what is done with it
@@ -87,11 +87,11 @@ clause_by uses.Tell c = as_fact c
 clause_by uses.Erase c = as_fact c
 
 -- the goal t resolved against a candidate, at the level d, where n variables are in use
-abbrev pub tried : ℕ → ℕ → Tree → List Element → Candidate → Option Place
+abbrev pub tried : ℕ → ℕ → Tree → List Element → Candidate → Option Resolvent
 tried d n t rest x = option_map (place_asked x.erased) (resolve d n t rest (clause_by x.uses x.clause))
 
 -- what is left of a call at the level d: of a goal, before a list, by some candidates
-abbrev pub candidates_left : ℕ → Env → Tree → List Element → List Candidate → List Place
+abbrev pub candidates_left : ℕ → Env → Tree → List Element → List Candidate → List Resolvent
 candidates_left d e t rest xs = filter_map (tried d e.count t rest) xs
 
 abbrev pub erased_by : Use → ClauseName → Option ClauseName
@@ -154,7 +154,7 @@ left_if db u t None = []
 left_if db u t (Some x) = left_at db u t x
 
 -- what is left of a call of a predicate of several answers: over the values of its arguments, before a list, by a turn
-abbrev pub answers_left : Env → List Cell → List Element → Turn → List Place
+abbrev pub answers_left : Env → List Cell → List Element → Remaining → List Resolvent
 answers_left e vs rest turn = filter_map (solved rest e.count) (left e.heap vs turn)
 
 -- what a handler over a heap stands for
@@ -176,7 +176,7 @@ abbrev pub kept_values : List Cell → Point → Resume → List Cell
 kept_values saved p r = take (kept r) (drop p.marks.saved saved)
 
 -- the case at the level d, of the environment that it comes back to, by the items of its list and the values that it keeps
-abbrev pub case_of : Database → Goals → ℕ → Env → List Item → List Cell → Resume → Case
+abbrev pub case_of : Database → Goals → ℕ → Env → List Portion → List Cell → Resume → Case
 case_of db code d e xs vs (resumes.Clauses c) = Choice (places_left d e (called e.heap (db.statics c.procedure).name vs) (all_elements code e xs) (drop c.next (db.statics c.procedure).clauses))
 case_of db code d e xs vs (resumes.Walk w) = Choice (candidates_left d e (value e.heap w.goal) (all_elements code e xs) (left_at db w.uses (value e.heap w.goal) w.spot))
 case_of db code d e xs vs (resumes.Answers a) = Choice (answers_left e vs (all_elements code e xs) a.turn)

@@ -9,7 +9,7 @@ use Rattle.plcells.specs.declared.cell.Cell.{Cell}
 use Rattle.plcells.specs.declared.equation.Equation.{Equation}
 use Rattle.plcells.specs.Store.{IsValue, value}
 use Rattle.plcells.specs.Equations.{left_of, right_of}
-use Rattle.plsearch.specs.Types.{Element, Place, Case, Choice, Handle}
+use Rattle.plsearch.specs.Types.{Element, Resolvent, Case, Choice, Handle}
 use Rattle.plsearch.specs.Lists.{bind_goals}
 use Rattle.plcode.specs.Steps.{goals_from}
 use Rattle.plviews.specs.declared.view.View.{View}
@@ -57,10 +57,10 @@ abbrev pub goals_of : State → Continuation → List Element
 goals_of s l = list_goals (goals_in s) s.env s.links l
 
 -- a list as a place
-abbrev pub place_at : State → Continuation → Place
+abbrev pub place_at : State → Continuation → Resolvent
 place_at s l = record { goals = goals_of s l; variables = s.env.count }
 
-abbrev pub place_of : State → Place
+abbrev pub place_of : State → Resolvent
 place_of s = place_at s s.goals
 
 -- the open cases, the innermost first
@@ -256,14 +256,14 @@ HasGatherer s = BeginsWith IsGatherer (reverse s.frames)
 
 -- the next place of the innermost choice is visited
 pub record Retries (db : Database) (old new : State) : Type 0 where
-  pub others : List Place
+  pub others : List Resolvent
   pub older : List Case
   pub was : cases_of db old ≡ Choice (place_of new ∷ others) ∷ older
   pub cases : cases_of db new ≡ Choice others ∷ older
 
 -- the next place of the innermost choice is the visited list, before which this clause is to be erased
 pub record RetriesBy (db : Database) (old new : State) (erased : Option ClauseName) : Type 0 where
-  pub others : List Place
+  pub others : List Resolvent
   pub older : List Case
   pub was : cases_of db old ≡ Choice (place_asked erased (place_of new) ∷ others) ∷ older
   pub cases : cases_of db new ≡ Choice others ∷ older

@@ -7,7 +7,7 @@ use Rattle.plclause.specs.Clause.{Clause}
 use Rattle.plprogram.specs.Program.{Program, clauses_for}
 use Rattle.plcells.specs.declared.cell.Cell.{Cell}
 use Rattle.plcells.specs.Store.{value}
-use Rattle.plsearch.specs.Types.{Place, Case, Choice}
+use Rattle.plsearch.specs.Types.{Resolvent, Case, Choice}
 use Rattle.plsearch.specs.Lists.{bind_goals}
 use Rattle.plsearch.specs.Moves.{before_rest, is_true}
 use Rattle.plsearch.specs.Engine.{deeper}
@@ -69,7 +69,7 @@ abbrev pub goal_at : Database → State → Point → Clauses → Tree
 goal_at db s p c = called (cut p.marks.env s.env).heap (db.statics c.procedure).name (kept_values s.saved p (resumes.Clauses c))
 
 -- what a call has left by some clauses, as a case of the level d
-abbrev pub further : Database → State → ℕ → Point → Clauses → List Clause → List Place
+abbrev pub further : Database → State → ℕ → Point → Clauses → List Clause → List Resolvent
 further db s d p c cs = places_left d (cut p.marks.env s.env) (goal_at db s p c) (all_elements (goals_in s) (cut p.marks.env s.env) (items_of s.links p.list)) cs
 
 -- the clauses from a number on, if there is one

@@ -4,7 +4,7 @@ use Rattle.plterm.specs.Tree.{Tree}
 use Rattle.plclause.specs.Clause.{Clause}
 use Rattle.plcells.specs.declared.cell.Cell.{Cell}
 use Rattle.plcells.specs.Store.{IsValue, value}
-use Rattle.plsearch.specs.Types.{Element, Place, Case, Choice}
+use Rattle.plsearch.specs.Types.{Element, Resolvent, Case, Choice}
 use Rattle.plsearch.specs.Moves.{resolve}
 use Rattle.plsearch.specs.Engine.{deeper}
 use Rattle.plenv.specs.Env.{cut}
@@ -45,7 +45,7 @@ abbrev pub goal_at : State → Point → Walk → Tree
 goal_at s p w = value (cut p.marks.env s.env).heap w.goal
 
 -- what it has left by some candidates, as a case of the level d
-abbrev pub walk_left : State → ℕ → Point → Walk → List Candidate → List Place
+abbrev pub walk_left : State → ℕ → Point → Walk → List Candidate → List Resolvent
 walk_left s d p w xs = candidates_left d (cut p.marks.env s.env) (goal_at s p w) (all_elements (goals_in s) (cut p.marks.env s.env) (items_of s.links p.list)) xs
 
 -- the innermost case, a walk, stands at another spot, or nothing is left of it

@@ -2,7 +2,7 @@
 ghost use Rattle.std.specs.Prelude.{◌≡◌, ◌<◌, ◌^◌, [], ◌∷◌, length, true, false, None, IfOk, IfSome, IfNone, IsSome, OnErr, vec_capacity, vec_len};
 ghost use Rattle.plcells.specs.Store.{AreValues};
 ghost use Rattle.plsearch.specs.Types.{Choice};
-ghost use Rattle.plgenerator.specs.Answers.{IsTurn};
+ghost use Rattle.plgenerator.specs.Answers.{IsRemaining};
 ghost use Rattle.plenv.specs.Changes.{Stays};
 ghost use Rattle.plenv.specs.Env.{IsEnv};
 ghost use Rattle.plstack.specs.Places.{Database};
@@ -19,7 +19,7 @@ use crate::walk::Opened;
 use plcells::cell::Cell;
 use plenv::env::Environment;
 use plgenerator::generator::next;
-use plgenerator::turn::Turn;
+use plgenerator::turn::Remaining;
 use pllinks::link::Continuation;
 use pllinks::list::ListId;
 use std::alloc::{AllocError, Global};
@@ -27,7 +27,7 @@ use std::alloc::{AllocError, Global};
 /// An answer that was taken: those behind it, if there may be one.
 #[derive(Clone, Copy)]
 pub struct Taken {
-    pub rest: Option<Turn>,
+    pub rest: Option<Remaining>,
 }
 
 /// The first of the answers that are left over some values which fits: its two sides are unified. Where there is none, or memory gives out,
@@ -36,10 +36,10 @@ fn first_answer(
     env: &mut Environment,
     alloc: Global,
     values: &[Cell],
-    turn: Turn,
+    turn: Remaining,
 ) -> Result<Option<Taken>, AllocError>
     requires values { AreValues env.old.heap values.now }
-    requires turn { IsTurn env.old.heap values.now turn }
+    requires turn { IsRemaining env.old.heap values.now turn }
     ensures some { IfOk result (λ o. IfSome o (λ taken. TakesAnswer env.old env.new values.now turn taken.rest)) }
     ensures none { IfOk result (λ o. IfNone o (TakesNone env.old env.new values.now turn)) }
     ensures err { OnErr result (Stays env.old env.new) }
@@ -65,10 +65,10 @@ fn take_answer(
     env: &mut Environment,
     alloc: Global,
     values: &[Cell],
-    turn: Turn,
+    turn: Remaining,
 ) -> Result<Option<Taken>, AllocError>
     requires values { AreValues env.old.heap values.now }
-    requires turn { IsTurn env.old.heap values.now turn }
+    requires turn { IsRemaining env.old.heap values.now turn }
     ensures some { IfOk result (λ o. IfSome o (λ taken. TakesAnswer env.old env.new values.now turn taken.rest)) }
     ensures none { IfOk result (λ o. IfNone o (TakesNone env.old env.new values.now turn)) }
     ensures err { OnErr result (Stays env.old env.new) }
@@ -80,7 +80,7 @@ fn take_answer(
 }
 
 /// Opens the case of the answers of a turn that are left, or a choice with nothing left: whether nothing is.
-fn push_answers(frames: &mut Vec<Frame>, point: Point, count: u32, rest: Option<Turn>) -> bool
+fn push_answers(frames: &mut Vec<Frame>, point: Point, count: u32, rest: Option<Remaining>) -> bool
     requires room { vec_len frames.old < vec_capacity frames.old }
     ensures pushes { PushesAnswers point count rest frames.old.items frames.new.items }
     ensures last { result ≡ true → rest ≡ None }
@@ -105,12 +105,12 @@ impl Stack {
         &mut self,
         alloc: Global,
         values: &[Cell],
-        turn: Turn,
+        turn: Remaining,
         rest: Continuation,
     ) -> Result<bool, AllocError>
         requires values { AreValues self.old.env.heap values.now }
         requires few { length values.now < 2 ^ 32 }
-        requires turn { IsTurn self.old.env.heap values.now turn }
+        requires turn { IsRemaining self.old.env.heap values.now turn }
         requires rest { IsList self.old rest }
         requires fits { IsFit self.old rest }
         ensures yes { IfOk result (λ yes. yes ≡ true → (db : Database) → Answered db self.old self.new values.now rest turn) }
@@ -136,12 +136,12 @@ impl Stack {
         alloc: Global,
         point: Point,
         values: &[Cell],
-        turn: Turn,
+        turn: Remaining,
     ) -> Result<Option<Opened>, AllocError>
         requires marks { IsMarked self.old point.marks }
         requires values { AreValues self.old.env.heap values.now }
         requires few { length values.now < 2 ^ 32 }
-        requires turn { IsTurn self.old.env.heap values.now turn }
+        requires turn { IsRemaining self.old.env.heap values.now turn }
         requires list { IsList self.old point.list }
         requires fits { IsFit self.old point.list }
         ensures some { IfOk result (λ o. IsSome o → (db : Database) → Answered db self.old self.new values.now point.list turn) }

@@ -33,7 +33,7 @@ use plcode::program::ProgramCode;
 use plenv::env::Environment;
 use plenv::slot::Mark;
 use plhead::head::Matcher;
-use pllinks::item::Run;
+use pllinks::item::ClauseGoals;
 use pllinks::level::Level;
 use pllinks::link::Continuation;
 use pllinks::list::ListId;
@@ -136,7 +136,7 @@ fn body_of(hit: Hit, behind: ListId, level: Level) -> Continuation
     if hit.clause.is_fact {
         return Continuation::alone(behind);
     }
-    let run = Run {
+    let run = ClauseGoals {
         position: hit.clause.body,
         owed: 0,
         base: hit.base,

@@ -7,7 +7,7 @@ ghost use Rattle.plstack.specs.First.{Begins, IsFirst, IsShort, IsStep};
 use crate::stack::Stack;
 use plcells::cell::Cell;
 use plcode::op::{Op, Step};
-use pllinks::item::{Item, MarkerKind, Run};
+use pllinks::item::{Portion, MarkerKind, ClauseGoals};
 use pllinks::level::Level;
 use pllinks::link::{Continuation, first_link};
 
@@ -19,7 +19,7 @@ pub enum First {
     /// A conjunction of a clause's body: the list in which its two goals stand in its place.
     Both(Continuation),
     /// Any other goal of a clause's body: the run that begins with it, its step, and the list behind it.
-    Step(Run, Step, Continuation),
+    Step(ClauseGoals, Step, Continuation),
     /// A goal that is a term: its cut level, its value, and the list behind it.
     Goal(Level, Cell, Continuation),
     /// A marker, its level, and the list behind it.
@@ -41,20 +41,20 @@ impl Stack {
             };
             let behind = Continuation::alone(link.next);
             match &link.item {
-                Item::Run(run) => {
+                Portion::Clause(run) => {
                     list = Continuation {
                         run: *run,
                         rest: link.next,
                     };
                 }
-                Item::Goal(level, v) => return First::Goal(*level, *v, behind),
-                Item::Marker(kind, level) => return First::Marker(*kind, *level, behind),
+                Portion::Goal(level, v) => return First::Goal(*level, *v, behind),
+                Portion::Marker(kind, level) => return First::Marker(*kind, *level, behind),
             }
         }
     }
 
     /// The step that a run begins with; none where it is at its end.
-    fn step_of(&self, run: Run) -> Option<Step>
+    fn step_of(&self, run: ClauseGoals) -> Option<Step>
         ensures some { IfSome result (λ x. IsStep self.now.basis.code.text run.position x) }
         ensures none { IfNone result (run_goals (goals_in self.now) run ≡ []) }
         ensures state { IsState self.now }
@@ -75,13 +75,13 @@ impl Stack {
     {
         let Continuation { run, rest } = list;
         if run.owed < step.conjunctions {
-            let next = Run {
+            let next = ClauseGoals {
                 owed: run.owed + 1,
                 ..run
             };
             return First::Both(Continuation { run: next, rest });
         }
-        let behind = Run {
+        let behind = ClauseGoals {
             position: run.position - 1,
             owed: 0,
             ..run

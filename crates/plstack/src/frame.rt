@@ -3,7 +3,7 @@
 use plcells::cell::Cell;
 use plenv::slot::Mark;
 use plevent::ClauseName;
-use plgenerator::turn::Turn;
+use plgenerator::turn::Remaining;
 use pllinks::link::Continuation;
 use plviews::{Reach, View};
 
@@ -74,7 +74,7 @@ pub struct Walk {
 #[derive(Clone, Copy)]
 pub struct Answers {
     pub count: u32,
-    pub turn: Turn,
+    pub turn: Remaining,
 }
 
 /// A catcher and its recovery.

@@ -3,7 +3,7 @@ ghost use Rattle.std.specs.Prelude.{◌≡◌, ◌≤◌, ◌-◌, List, [], ◌
 ghost use Rattle.plsearch.specs.Lists.{levels};
 ghost use Rattle.pllinks.specs.Lists.{elements, IsItem};
 ghost use Rattle.pllinks.specs.Links.{alone, link_at, IsDone};
-ghost use Rattle.pllinks.specs.declared.item.Item.TheVariants.{Run as RunOf};
+ghost use Rattle.pllinks.specs.declared.item.Portion.TheVariants.{Clause as RunOf};
 ghost use Rattle.plevent.specs.declared.update.Update.{Update};
 ghost use Rattle.plsearch.specs.Types.{Case};
 ghost use Rattle.plstack.specs.Places.{Database, IsOwnSoFar};
@@ -12,7 +12,7 @@ ghost use Rattle.plstack.specs.Levels.{kinds, levels_of, AreNamed, FitsIn};
 ghost use Rattle.plstack.specs.Linking.{LinksItem};
 
 use crate::stack::Stack;
-use pllinks::item::{Item, Run};
+use pllinks::item::{Portion, ClauseGoals};
 use pllinks::level::Level;
 use pllinks::link::{Continuation, Link, first_link, number_of, push_link};
 use pllinks::list::ListId;
@@ -32,7 +32,7 @@ impl Stack {
     }
 
     /// A new list: an item before a list that is there.
-    pub fn link(&mut self, item: Item, rest: Continuation) -> Result<Continuation, AllocError>
+    pub fn link(&mut self, item: Portion, rest: Continuation) -> Result<Continuation, AllocError>
         requires inside { IsItem (goals_in self.old) self.old.env.heap (length self.old.env.slots) item }
         requires rest { IsList self.old rest }
         ensures ok { IfOk result (λ l. AddsList self.old self.new l (elements (goals_in self.old) self.old.env item ++ goals_of self.old rest)) }
@@ -43,7 +43,7 @@ impl Stack {
     }
 
     /// A new list: goals of a clause before a list that is there.
-    pub fn before(&mut self, run: Run, rest: Continuation) -> Result<Continuation, AllocError>
+    pub fn before(&mut self, run: ClauseGoals, rest: Continuation) -> Result<Continuation, AllocError>
         requires inside { IsItem (goals_in self.old) self.old.env.heap (length self.old.env.slots) (RunOf run) }
         requires rest { IsList self.old rest }
         ensures ok { IfOk result (λ l. AddsList self.old self.new l (elements (goals_in self.old) self.old.env (RunOf run) ++ goals_of self.old rest)) }
@@ -92,7 +92,7 @@ impl Stack {
 /// A new list: an item before a list that is there.
 pub(crate) fn link_before(
     links: &mut Vec<Link>,
-    item: Item,
+    item: Portion,
     rest: Continuation,
 ) -> Result<Continuation, AllocError>
     requires { rest.rest ≤ length links.old.items }
@@ -111,10 +111,10 @@ pub(crate) fn link_before(
 }
 
 /// One more level, if the item is a marker.
-fn push_level(found: &mut Vec<Level>, item: Item) -> Result<(), AllocError>
+fn push_level(found: &mut Vec<Level>, item: Portion) -> Result<(), AllocError>
     ensures { OnOk result (found.new.items ≡ found.old.items ++ levels_of item) }
 {
-    if let Item::Marker(_, level) = item {
+    if let Portion::Marker(_, level) = item {
         found.push(level)?;
     }
     Ok(())

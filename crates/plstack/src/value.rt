@@ -15,7 +15,7 @@ use crate::stack::Stack;
 use plcells::cell::Cell;
 use plcode::callee::Number;
 use plgoals::extend::Extended;
-use pllinks::item::Run;
+use pllinks::item::ClauseGoals;
 use std::alloc::{AllocError, Global};
 
 impl Stack {
@@ -56,7 +56,7 @@ impl Stack {
     /// values; none for a variable or an integer, and the list is empty.
     pub fn put_goal(
         &mut self,
-        run: Run,
+        run: ClauseGoals,
         node: u32,
         values: &mut Vec<Cell>,
     ) -> Result<Option<Number>, AllocError>
@@ -79,7 +79,7 @@ impl Stack {
     }
 
     /// Puts the term of a node of a clause, whose slots are those of a run: its value.
-    pub fn put_node(&mut self, run: Run, node: u32) -> Result<Cell, AllocError>
+    pub fn put_node(&mut self, run: ClauseGoals, node: u32) -> Result<Cell, AllocError>
         requires { (t : Tree) × IsArgument self.old run node t }
         ensures value { IfOk result (λ v. IsValue self.new.env.heap v) }
         ensures is { IfOk result (λ v. (t : Tree) → IsArgument self.old run node t → value self.new.env.heap v ≡ bind (over self.old.env run.base) t) }

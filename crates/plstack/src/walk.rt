@@ -30,7 +30,7 @@ use plclause::clause::Clause;
 use plenv::env::Environment;
 use plenv::slot::Mark;
 use plevent::ClauseName;
-use pllinks::item::Item;
+use pllinks::item::Portion;
 use pllinks::level::Level;
 use pllinks::link::{Continuation, Link};
 use pllinks::list::ListId;
@@ -239,7 +239,7 @@ fn list_body(
     let Some(body) = body else {
         return Ok(call.rest);
     };
-    let list = link_before(links, Item::Goal(call.level, body), call.rest)?;
+    let list = link_before(links, Portion::Goal(call.level, body), call.rest)?;
     Ok(list)
 }
 

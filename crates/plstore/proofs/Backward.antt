@@ -4,7 +4,7 @@ use Rattle.std.proofs.Math.Seq.{take-append_seam}
 use Rattle.std.proofs.lemmas.List.{get_or-set_same, length-set, length-map, length-drop, set-append_left, set-get_or}
 use Rattle.plstore.specs.declared.ends.Ends.{Ends}
 use Rattle.plstore.specs.declared.record.Record.{Record}
-use Rattle.plstore.specs.declared.runs.Place.{Place}
+use Rattle.plstore.specs.declared.runs.RecordNotes.{RecordNotes}
 use Rattle.plstore.specs.declared.runs.Noted.{Noted}
 use Rattle.plstore.specs.Links.{earlier, backs, back_of, linked_at, Class, IsIndexed}
 use Rattle.plstore.specs.Runs.{SameRuns}
@@ -14,14 +14,14 @@ use Rattle.plstore.specs.Trail.{HadRun, MoreRuns, WasAt, WasEnd, WasRecord}
 use Rattle.plstore.proofs.Bits.{LastIs, first-none, get-drop, last-some, length-push}
 use Rattle.plstore.proofs.Index.{newest-within}
 
-pub same-join : (a b c : List Place) → SameRuns a b → SameRuns b c → SameRuns a c
+pub same-join : (a b c : List RecordNotes) → SameRuns a b → SameRuns b c → SameRuns a c
 same-join a b c h k = record { count = k.count ∙ h.count; each = λ i. k.each i ∙ h.each i }
 
-pub had-same : (o : Option Noted) (old new now : List Place) → HadRun o old new → SameRuns new now → HadRun o old now
+pub had-same : (o : Option Noted) (old new now : List RecordNotes) → HadRun o old new → SameRuns new now → HadRun o old now
 had-same None old new now h same = same-join old new now h same
 had-same (Some n) old new now h same = record { count = same.count ∙ h.count; here = h.here; others = λ i e. h.others i e ∙ sym (same.each i) }
 
-pub more-same : (old new now : List Place) → MoreRuns old new → SameRuns new now → MoreRuns old now
+pub more-same : (old new now : List RecordNotes) → MoreRuns old new → SameRuns new now → MoreRuns old now
 more-same old new now h same = record { count = same.count ∙ h.count; each = λ i l. same.each i ∙ h.each i l }
 
 pub set-twice : {A : Type 0} (xs : List A) (i : ℕ) (a b : A) → set (set xs i a) i b ≡ set xs i b

@@ -8,8 +8,8 @@ use Rattle.plevent.specs.Alive.{change_if}
 use Rattle.plstore.specs.declared.ends.Ends.{Ends}
 use Rattle.plstore.specs.declared.links.Links.{Links}
 use Rattle.plstore.specs.declared.record.Record.{Record}
-use Rattle.plstore.specs.declared.runs.Run.{Run}
-use Rattle.plstore.specs.declared.runs.Place.{Place}
+use Rattle.plstore.specs.declared.runs.ErasedRun.{ErasedRun}
+use Rattle.plstore.specs.declared.runs.RecordNotes.{RecordNotes}
 use Rattle.plstore.specs.Chains.{IsChain}
 use Rattle.plstore.specs.Kept.{seen}
 use Rattle.plstore.specs.Links.{last_below, first_from, first_end, front_of, back_of, fronts, backs, Class, IsIndexed, IsLinked, Marked}
@@ -100,7 +100,7 @@ lt-below a b e = grind (arith, nat_tests)
 gone-over : (bs : List Bool) (g b : ℕ) (rs : List Record) (low high j : ℕ) (d : Record) → b < g → AllGone bs rs b low high → low ≤ j → j ≤ high → get_or bs j false ≡ true → seen g (get_or rs j d) ≡ true → ⊥
 gone-over bs g b rs low high j d l gone lo hi h s = let z : seen g (get_or rs j d) ≡ false = hidden b g (get_or rs j d) l (gone j d lo hi h) in absurd (cc)
 
-run-ends : (f : Bool) (c : Class) (g : ℕ) (rs : List Record) (places : List Place) (i : ℕ) (r : Run) → HasRuns c rs places → get_or (marks f c rs) i false ≡ true → (get_or places i no_place).run ≡ Some r → r.latest < g → EndsAt f c g rs i r.last
+run-ends : (f : Bool) (c : Class) (g : ℕ) (rs : List Record) (places : List RecordNotes) (i : ℕ) (r : ErasedRun) → HasRuns c rs places → get_or (marks f c rs) i false ≡ true → (get_or places i no_place).run ≡ Some r → r.latest < g → EndsAt f c g rs i r.last
 run-ends true c g rs places i r runs h k l =
     let a = (runs.each i r k).down h in
     record {
@@ -124,17 +124,17 @@ run-ends false c g rs places i r runs h k l =
       ];
     }
 
-pub ends-at : (f : Bool) (c : Class) (g : ℕ) (rs : List Record) (places : List Place) (i n : ℕ) → HasRuns c rs places → get_or (marks f c rs) i false ≡ true → n ≡ end_at g i (get_or places i no_place).run → EndsAt f c g rs i n
+pub ends-at : (f : Bool) (c : Class) (g : ℕ) (rs : List Record) (places : List RecordNotes) (i n : ℕ) → HasRuns c rs places → get_or (marks f c rs) i false ≡ true → n ≡ end_at g i (get_or places i no_place).run → EndsAt f c g rs i n
 ends-at f c g rs places i n runs h e = subst (EndsAt f c g rs i) (sym e) (by-run (get_or places i no_place).run refl)
   where
     here : EndsAt f c g rs i i
     here = record { order = omega arith; mark = h; passed = λ j d w m s b. b }
 
-    by-test : (r : Run) → (get_or places i no_place).run ≡ Some r → (v : Bool) → nat_lt r.latest g ≡ v → EndsAt f c g rs i (change_if v r.last i)
+    by-test : (r : ErasedRun) → (get_or places i no_place).run ≡ Some r → (v : Bool) → nat_lt r.latest g ≡ v → EndsAt f c g rs i (change_if v r.last i)
     by-test r k false t = here
     by-test r k true t = run-ends f c g rs places i r runs h k (lt-below r.latest g t)
 
-    by-run : (o : Option Run) → (get_or places i no_place).run ≡ o → EndsAt f c g rs i (end_at g i o)
+    by-run : (o : Option ErasedRun) → (get_or places i no_place).run ≡ o → EndsAt f c g rs i (end_at g i o)
     by-run None k = here
     by-run (Some r) k = by-test r k (nat_lt r.latest g) refl
 

@@ -7,8 +7,8 @@ use Rattle.std.proofs.lemmas.Bool.Decides.{nat_tests}
 use Rattle.plevent.specs.declared.update.ClauseName.{ClauseName}
 use Rattle.plevent.specs.Alive.{change_if}
 use Rattle.plstore.specs.declared.record.Record.{Record}
-use Rattle.plstore.specs.declared.runs.Run.{Run}
-use Rattle.plstore.specs.declared.runs.Place.{Place}
+use Rattle.plstore.specs.declared.runs.ErasedRun.{ErasedRun}
+use Rattle.plstore.specs.declared.runs.RecordNotes.{RecordNotes}
 use Rattle.plstore.specs.declared.ends.Ends.{Ends}
 use Rattle.plstore.specs.Kept.{seen, not_below, first_of, erase_at, changed_where, is_named}
 use Rattle.plstore.specs.Links.{last_below, first_from, front_of, back_of, fronts, backs, Class, IsLinked, IsIndexed}
@@ -55,7 +55,7 @@ first-above bs m k i s e j l u h = by-size m k s e l
     by-size (suc m) k s e l = by-mark (get_or bs k false) k refl (sym (drop-mark bs k (omega arith)) ∙ e) l (λ e l. by-size m (suc k) (omega arith) e l)
 
 -- two runs that follow one another are one
-join-down : (bs : List Bool) (rs : List Record) (i n m : ℕ) (r q : Run) → IsRunDown bs rs i r → last_below bs r.last ≡ Some n → IsRunDown bs rs n q → r.latest ≤ m → q.latest ≤ m →
+join-down : (bs : List Bool) (rs : List Record) (i n m : ℕ) (r q : ErasedRun) → IsRunDown bs rs i r → last_below bs r.last ≡ Some n → IsRunDown bs rs n q → r.latest ≤ m → q.latest ≤ m →
     IsRunDown bs rs i (record { last = q.last; latest = m })
 join-down bs rs i n m r q a e b la lb =
     let l : LastIs bs r.last n = last-some bs r.last n e in
@@ -71,7 +71,7 @@ join-down bs rs i n m r q a e b la lb =
       ];
     }
 
-join-up : (p : Class) (rs : List Record) (i n m : ℕ) (r q : Run) → IsRunUp (backs p rs) rs i r → first_from (suc r.last) (drop (suc r.last) (backs p rs)) ≡ Some n → IsRunUp (backs p rs) rs n q → r.latest ≤ m → q.latest ≤ m →
+join-up : (p : Class) (rs : List Record) (i n m : ℕ) (r q : ErasedRun) → IsRunUp (backs p rs) rs i r → first_from (suc r.last) (drop (suc r.last) (backs p rs)) ≡ Some n → IsRunUp (backs p rs) rs n q → r.latest ≤ m → q.latest ≤ m →
     IsRunUp (backs p rs) rs i (record { last = q.last; latest = m })
 join-up p rs i n m r q a e b la lb =
     let bs = backs p rs in
@@ -94,7 +94,7 @@ join-up p rs i n m r q a e b la lb =
 marked-last : (bs : List Bool) (k n : ℕ) → last_below bs k ≡ Some n → get_or bs n false ≡ true
 marked-last bs k n e = (last-some bs k n e).here
 
-pub run-joined : (p : Class) (rs : List Record) (next : List (Option ℕ)) (places : List Place) (i n m : ℕ) (r q : Run) → IsLinked p rs next → HasRuns p rs places → get_or next r.last None ≡ Some n → (get_or places n no_place).run ≡ Some q → r.latest ≤ m → q.latest ≤ m →
+pub run-joined : (p : Class) (rs : List Record) (next : List (Option ℕ)) (places : List RecordNotes) (i n m : ℕ) (r q : ErasedRun) → IsLinked p rs next → HasRuns p rs places → get_or next r.last None ≡ Some n → (get_or places n no_place).run ≡ Some q → r.latest ≤ m → q.latest ≤ m →
     IsRun p rs i r → IsRun p rs i (record { last = q.last; latest = m })
 run-joined p rs next places i n m r q links runs to at la lb own = record {
   down = λ h.
@@ -110,16 +110,16 @@ run-joined p rs next places i n m r q links runs to at la lb own = record {
 }
 
 -- a place beyond the last one has no run
-pub get-over : (xs : List Place) (i : ℕ) → length xs ≤ i → get_or xs i no_place ≡ no_place
+pub get-over : (xs : List RecordNotes) (i : ℕ) → length xs ≤ i → get_or xs i no_place ≡ no_place
 get-over [] i h = refl
 get-over (x ∷ xs) zero h = absurd (omega arith)
 get-over (x ∷ xs) (suc i) h = get-over xs i (omega arith)
 
-run-is : {r q : Run} → Some r ≡ Some q → r ≡ q
+run-is : {r q : ErasedRun} → Some r ≡ Some q → r ≡ q
 run-is e = cc
 
 -- one run is noted
-pub runs-one : (p : Class) (rs : List Record) (old new : List Place) (i : ℕ) (r : Run) → HasRuns p rs old → IsRun p rs i r → OneRun i (Some r) old new → HasRuns p rs new
+pub runs-one : (p : Class) (rs : List Record) (old new : List RecordNotes) (i : ℕ) (r : ErasedRun) → HasRuns p rs old → IsRun p rs i r → OneRun i (Some r) old new → HasRuns p rs new
 runs-one p rs old new i r runs own one = record {
   count = one.count ∙ runs.count;
   each = λ j q h. elim (cases j i) [
@@ -128,38 +128,38 @@ runs-one p rs old new i r runs own one = record {
   ];
 }
   where
-    other : (j : ℕ) (q : Run) → (j ≡ i → ⊥) → run_at new j ≡ Some q → IsRun p rs j q
+    other : (j : ℕ) (q : ErasedRun) → (j ≡ i → ⊥) → run_at new j ≡ Some q → IsRun p rs j q
     other j q n h = runs.each j q (sym (one.others j n) ∙ h)
 
-    over : (q : Run) → length old ≤ i → run_at new i ≡ Some q → ⊥
-    over q l h = let z : None ≡ Some q = ap (λ (x : Place). x.run) (sym (get-over new i (omega (arith, one.count)))) ∙ h in cc
+    over : (q : ErasedRun) → length old ≤ i → run_at new i ≡ Some q → ⊥
+    over q l h = let z : None ≡ Some q = ap (λ (x : RecordNotes). x.run) (sym (get-over new i (omega (arith, one.count)))) ∙ h in cc
 
-    within : (q : Run) → i < length old → run_at new i ≡ Some q → IsRun p rs i q
+    within : (q : ErasedRun) → i < length old → run_at new i ≡ Some q → IsRun p rs i q
     within q l h = subst (IsRun p rs i) (run-is (sym (one.here l) ∙ h)) own
 
-    at : (q : Run) → run_at new i ≡ Some q → IsRun p rs i q
+    at : (q : ErasedRun) → run_at new i ≡ Some q → IsRun p rs i q
     at q h = elim (cases i (length old)) [
       | inl lt ↦ within q lt h
       | inr o ↦ elim o [ inl e ↦ absurd (over q (omega arith) h) | inr gt ↦ absurd (over q (omega arith) h) ]
     ]
 
 -- what is no run leaves them alone
-pub same-set : (places : List Place) (i : ℕ) (new : Place) → i < length places → new.run ≡ (get_or places i no_place).run → SameRuns places (set places i new)
+pub same-set : (places : List RecordNotes) (i : ℕ) (new : RecordNotes) → i < length places → new.run ≡ (get_or places i no_place).run → SameRuns places (set places i new)
 same-set places i new l e = record {
   count = length-set places i new;
   each = λ j. elim (cases i j) [
-    | inl lt ↦ ap (λ (x : Place). x.run) (get_or-set_other places i j new no_place (λ q. absurd (omega arith)))
+    | inl lt ↦ ap (λ (x : RecordNotes). x.run) (get_or-set_other places i j new no_place (λ q. absurd (omega arith)))
     | inr o ↦ elim o [
-      | inl q ↦ ap (λ j. (get_or (set places i new) j no_place).run) (sym q) ∙ ap (λ (x : Place). x.run) (get_or-set_same places i new no_place l) ∙ e ∙ ap (λ j. (get_or places j no_place).run) q
-      | inr gt ↦ ap (λ (x : Place). x.run) (get_or-set_other places i j new no_place (λ q. absurd (omega arith)))
+      | inl q ↦ ap (λ j. (get_or (set places i new) j no_place).run) (sym q) ∙ ap (λ (x : RecordNotes). x.run) (get_or-set_same places i new no_place l) ∙ e ∙ ap (λ j. (get_or places j no_place).run) q
+      | inr gt ↦ ap (λ (x : RecordNotes). x.run) (get_or-set_other places i j new no_place (λ q. absurd (omega arith)))
     ]
   ];
 }
 
-pub same-self : (places : List Place) → SameRuns places places
+pub same-self : (places : List RecordNotes) → SameRuns places places
 same-self places = record { count = refl; each = λ j. refl }
 
-pub runs-same : (p : Class) (rs : List Record) (old new : List Place) → SameRuns old new → HasRuns p rs old → HasRuns p rs new
+pub runs-same : (p : Class) (rs : List Record) (old new : List RecordNotes) → SameRuns old new → HasRuns p rs old → HasRuns p rs new
 runs-same p rs old new same runs = record { count = same.count ∙ runs.count; each = λ i r h. runs.each i r (sym (same.each i) ∙ h) }
 
 -- one more record
@@ -169,7 +169,7 @@ mark-kept t rs r i l = ap (λ bs. get_or bs i false) (map-append t rs (r ∷ [])
 record-kept : (b : ℕ) (rs : List Record) (r : Record) (j : ℕ) (d : Record) → j < length rs → IsGone b (get_or rs j d).erased → IsGone b (get_or (rs ++ r ∷ []) j d).erased
 record-kept b rs r j d l h = subst (λ (q : Record). IsGone b q.erased) (sym (get_or_append_left rs (r ∷ []) d j l)) h
 
-run-push : (p : Class) (rs : List Record) (r : Record) (i : ℕ) (q : Run) → i < length rs → IsRun p rs i q → IsRun p (rs ++ r ∷ []) i q
+run-push : (p : Class) (rs : List Record) (r : Record) (i : ℕ) (q : ErasedRun) → i < length rs → IsRun p rs i q → IsRun p (rs ++ r ∷ []) i q
 run-push p rs r i q l run = record {
   down = λ h.
       let a = run.down (sym (mark-kept (front_of p) rs r i l) ∙ h) in
@@ -188,14 +188,14 @@ run-push p rs r i q l run = record {
       };
 }
 
-pub runs-push : (p : Class) (rs : List Record) (r : Record) (places : List Place) (new : Place) → new.run ≡ None → HasRuns p rs places → HasRuns p (rs ++ r ∷ []) (places ++ new ∷ [])
+pub runs-push : (p : Class) (rs : List Record) (r : Record) (places : List RecordNotes) (new : RecordNotes) → new.run ≡ None → HasRuns p rs places → HasRuns p (rs ++ r ∷ []) (places ++ new ∷ [])
 runs-push p rs r places new none runs = record {
   count = length-push places new ∙ ap suc runs.count ∙ sym (length-push rs r);
   each = λ i q h. elim (cases i (length places)) [
-    | inl lt ↦ run-push p rs r i q (omega (arith, runs.count)) (runs.each i q (ap (λ (x : Place). x.run) (sym (get_or_append_left places (new ∷ []) no_place i lt)) ∙ h))
+    | inl lt ↦ run-push p rs r i q (omega (arith, runs.count)) (runs.each i q (ap (λ (x : RecordNotes). x.run) (sym (get_or_append_left places (new ∷ []) no_place i lt)) ∙ h))
     | inr o ↦ elim o [
-      | inl e ↦ let z : None ≡ Some q = sym none ∙ ap (λ (x : Place). x.run) (sym (get_or_at places new [] no_place i (sym e))) ∙ h in absurd (cc)
-      | inr gt ↦ let z : None ≡ Some q = ap (λ (x : Place). x.run) (sym (get-over (places ++ new ∷ []) i (omega (arith, length-push places new)))) ∙ h in absurd (cc)
+      | inl e ↦ let z : None ≡ Some q = sym none ∙ ap (λ (x : RecordNotes). x.run) (sym (get_or_at places new [] no_place i (sym e))) ∙ h in absurd (cc)
+      | inr gt ↦ let z : None ≡ Some q = ap (λ (x : RecordNotes). x.run) (sym (get-over (places ++ new ∷ []) i (omega (arith, length-push places new)))) ∙ h in absurd (cc)
     ]
   ];
 }
@@ -210,7 +210,7 @@ gone-erased t b e [] j d h = h
 gone-erased t b e (r ∷ rs) zero d h = elim (t r) as (λ v. IsGone b (change_if v (erase_at e r) r).erased) [ true ↦ gone-first b e r.erased h | false ↦ h ]
 gone-erased t b e (r ∷ rs) (suc j) d h = gone-erased t b e rs j d h
 
-run-erase : (p : Class) (y : ClauseName) (b : ℕ) (rs : List Record) (i : ℕ) (q : Run) → IsRun p rs i q → IsRun p (changed_where (is_named y) (erase_at b) rs) i q
+run-erase : (p : Class) (y : ClauseName) (b : ℕ) (rs : List Record) (i : ℕ) (q : ErasedRun) → IsRun p rs i q → IsRun p (changed_where (is_named y) (erase_at b) rs) i q
 run-erase p y b rs i q run = record {
   down = λ h.
       let a = run.down (ap (λ bs. get_or bs i false) (sym (fronts-erased p y b rs)) ∙ h) in
@@ -228,7 +228,7 @@ run-erase p y b rs i q run = record {
       };
 }
 
-pub runs-erase : (p : Class) (y : ClauseName) (b : ℕ) (rs : List Record) (places : List Place) → HasRuns p rs places → HasRuns p (changed_where (is_named y) (erase_at b) rs) places
+pub runs-erase : (p : Class) (y : ClauseName) (b : ℕ) (rs : List Record) (places : List RecordNotes) → HasRuns p rs places → HasRuns p (changed_where (is_named y) (erase_at b) rs) places
 runs-erase p y b rs places runs = record { count = runs.count ∙ sym (length-erased y b rs); each = λ i q h. run-erase p y b rs i q (runs.each i q h) }
 
 pub linked : (p : Class) (rs : List Record) (next : List (Option ℕ)) (e : Ends) → IsIndexed p rs next e → IsLinked p rs next

@@ -7,8 +7,8 @@ use Rattle.plstore.specs.declared.ends.Ends.{Ends}
 use Rattle.plstore.specs.declared.links.Links.{Links}
 use Rattle.plstore.specs.declared.record.Record.{Record}
 use Rattle.plstore.specs.declared.record.Declared.{Declared}
-use Rattle.plstore.specs.declared.runs.Run.{Run}
-use Rattle.plstore.specs.declared.runs.Place.{Place}
+use Rattle.plstore.specs.declared.runs.ErasedRun.{ErasedRun}
+use Rattle.plstore.specs.declared.runs.RecordNotes.{RecordNotes}
 use Rattle.plstore.specs.declared.runs.Noted.{Noted}
 use Rattle.plstore.specs.declared.runs.Buried.{Buried}
 use Rattle.plstore.specs.declared.tables.Erasure.{Erasure}
@@ -23,31 +23,31 @@ use Rattle.plstore.specs.Links.{Index, ends_in, links_after}
 use Rattle.plstore.specs.Runs.{no_place, SameRuns}
 use Rattle.plstore.specs.Tables.{kept_in, IsStored}
 
-abbrev pub run_at : List Place → ℕ → Option Run
+abbrev pub run_at : List RecordNotes → ℕ → Option ErasedRun
 run_at xs i = (slice_index_or xs i no_place).run
 
 -- one record's run is set, if there is the record
-pub record OneRun (first : ℕ) (run : Option Run) (old new : List Place) : Type 0 where
+pub record OneRun (first : ℕ) (run : Option ErasedRun) (old new : List RecordNotes) : Type 0 where
   pub count : length new ≡ length old
   pub here : first < length old → run_at new first ≡ run
   pub others : (i : ℕ) → i ≢ first → run_at new i ≡ run_at old i
 
 -- there was that run before another was noted
-pub record WasRun (n : Noted) (old new : List Place) : Type 0 where
+pub record WasRun (n : Noted) (old new : List RecordNotes) : Type 0 where
   pub count : length new ≡ length old
   pub here : run_at old n.first ≡ n.run
   pub others : (i : ℕ) → i ≢ n.first → run_at old i ≡ run_at new i
 
-abbrev pub HadRun : Option Noted → List Place → List Place → Type 0
+abbrev pub HadRun : Option Noted → List RecordNotes → List RecordNotes → Type 0
 HadRun None old new = SameRuns old new
 HadRun (Some n) old new = WasRun n old new
 
 -- and before an erasure
-abbrev pub HadRuns : Buried → List Place → List Place → Type 0
-HadRuns b old new = (between : List Place) × WasRun b.own old between × HadRun b.before between new
+abbrev pub HadRuns : Buried → List RecordNotes → List RecordNotes → Type 0
+HadRuns b old new = (between : List RecordNotes) × WasRun b.own old between × HadRun b.before between new
 
 -- the runs of one record fewer
-pub record MoreRuns (old new : List Place) : Type 0 where
+pub record MoreRuns (old new : List RecordNotes) : Type 0 where
   pub count : length new ≡ suc (length old)
   pub each : (i : ℕ) → i < length old → run_at new i ≡ run_at old i
 

@@ -2,7 +2,7 @@
 ghost use Rattle.std.specs.Prelude.{length};
 ghost use Rattle.plstore.specs.Runs.{SameRuns};
 
-use crate::runs::Place;
+use crate::runs::RecordNotes;
 
 /// A group is a tree of the records of a run, in which the smaller of two that are joined goes below the larger. It tells records by 32 bits of
 /// their numbers: where these are too few a run is passed over in more steps.
@@ -38,12 +38,12 @@ pub(crate) fn alone(number: usize) -> Group {
 }
 
 /// The first record of the run that one is in; itself where it is not erased.
-pub(crate) fn first_of(places: &[Place], number: usize) -> usize {
+pub(crate) fn first_of(places: &[RecordNotes], number: usize) -> usize {
     group_at(places, top_of(places, number)).first as usize
 }
 
 /// The top of its group. No tree is higher than there are bits in a number.
-fn top_of(places: &[Place], number: usize) -> usize {
+fn top_of(places: &[RecordNotes], number: usize) -> usize {
     let mut at = number;
     for _ in 0..usize::BITS {
         let up = group_at(places, at).up as usize;
@@ -55,7 +55,7 @@ fn top_of(places: &[Place], number: usize) -> usize {
     at
 }
 
-fn group_at(places: &[Place], number: usize) -> Group {
+fn group_at(places: &[RecordNotes], number: usize) -> Group {
     if number < places.len() {
         places[number].group
     } else {
@@ -64,7 +64,7 @@ fn group_at(places: &[Place], number: usize) -> Group {
 }
 
 /// Joins the groups of two records, of a run that begins with the first one.
-pub(crate) fn unite(places: &mut [Place], first: usize, last: usize) -> United
+pub(crate) fn unite(places: &mut [RecordNotes], first: usize, last: usize) -> United
     ensures same { SameRuns places.old places.new }
 {
     let one = top_of(places, first);
@@ -106,7 +106,7 @@ pub(crate) fn unite(places: &mut [Place], first: usize, last: usize) -> United
 }
 
 /// Separates two groups that were joined.
-pub(crate) fn separate(places: &mut [Place], united: &United)
+pub(crate) fn separate(places: &mut [RecordNotes], united: &United)
     ensures same { SameRuns places.old places.new }
 {
     let (low, top) = (united.low, united.top);
@@ -136,7 +136,7 @@ pub(crate) fn separate(places: &mut [Place], united: &United)
     );
 }
 
-fn set_group(places: &mut [Place], number: usize, group: Group)
+fn set_group(places: &mut [RecordNotes], number: usize, group: Group)
     ensures same { SameRuns places.old places.new }
 {
     if number < places.len() {

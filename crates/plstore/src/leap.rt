@@ -4,7 +4,7 @@ ghost use Rattle.std.specs.Prelude.{◌<◌, IfSome};
 use crate::ends::wide;
 use crate::group::short;
 use crate::links::Links;
-use crate::runs::{Place, before, passed_from};
+use crate::runs::{RecordNotes, before, passed_from};
 
 /// A link from a record to an older one of its side, and how many it leads over. With these one of n records is found in
 /// about log n steps.
@@ -15,7 +15,7 @@ pub(crate) struct Leap {
 }
 
 /// The leap of one more record: over the last two leaps where they are as wide as one another, else to the record before.
-pub(crate) fn leap_over(places: &[Place], older: Option<usize>, number: usize) -> Leap {
+pub(crate) fn leap_over(places: &[RecordNotes], older: Option<usize>, number: usize) -> Leap {
     match older {
         None => Leap {
             to: short(number),
@@ -39,7 +39,7 @@ pub(crate) fn leap_over(places: &[Place], older: Option<usize>, number: usize) -
     }
 }
 
-fn leap_at(places: &[Place], number: usize) -> Leap {
+fn leap_at(places: &[RecordNotes], number: usize) -> Leap {
     if number < places.len() {
         places[number].leap
     } else {

@@ -8,7 +8,7 @@ ghost use Rattle.plstore.specs.Runs.{end_at, no_place, HasRuns, IsGone, SameRuns
 ghost use Rattle.plstore.specs.Trail.{HadLinks, HadRuns, IsLonger, MoreRuns, SameLinks};
 
 use crate::ends::{Ends, ends_of, grown, link, set_ends, unlink, wide};
-use crate::runs::{Buried, Place, add_place, bury, drop_place, run_end, unbury};
+use crate::runs::{Buried, RecordNotes, add_place, bury, drop_place, run_end, unbury};
 use std::alloc::{AllocError, Global};
 use std::collections::HashMap;
 use std::hash::Hash;
@@ -19,7 +19,7 @@ pub(crate) struct Links {
     /// By the number of a record the next one of its side: downward in front, upward behind.
     pub(crate) next: Vec<Option<u32>>,
     /// By the number of a record what is known of the erased ones beside it.
-    pub(crate) places: Vec<Place>,
+    pub(crate) places: Vec<RecordNotes>,
 }
 
 /// A record that is added: its number, whether it is put before all others, and the place of its batch.

@@ -2,7 +2,7 @@
 ghost use Rattle.std.specs.Prelude.{◌≡◌, ◌<◌, ◌≤◌, ◌+◌, ◌++◌, ◌∷◌, [], ℕ, List, None, Some, length, slice_index_or, vec_len};
 ghost use Rattle.std.specs.Vec.{vec_capacity};
 ghost use Rattle.plstore.specs.declared.record.Record.{Record};
-ghost use Rattle.plstore.specs.declared.runs.Run.{Run as Ran};
+ghost use Rattle.plstore.specs.declared.runs.ErasedRun.{ErasedRun as Ran};
 ghost use Rattle.plstore.specs.Links.{Class, IsLinked};
 ghost use Rattle.plstore.specs.Runs.{end_at, no_place, HasRuns, IsGone, IsRun, SameRuns};
 ghost use Rattle.plstore.specs.Trail.{HadRun, HadRuns, MoreRuns, OneRun, WasRun};
@@ -14,16 +14,16 @@ use crate::leap::{Leap, leap_over};
 /// Erased records of one side of a class that follow one another: from one on up to `last`, each erased by a batch at
 /// `latest` or below.
 #[derive(Clone, Copy)]
-pub(crate) struct Run {
+pub(crate) struct ErasedRun {
     pub(crate) last: usize,
     pub(crate) latest: u64,
 }
 
 /// What is kept of a record beside its link.
 #[derive(Clone, Copy)]
-pub(crate) struct Place {
+pub(crate) struct RecordNotes {
     /// The run that begins here.
-    pub(crate) run: Option<Run>,
+    pub(crate) run: Option<ErasedRun>,
     /// 32 bits of the number of the record whose link leads here; of its own where none does. Nothing but time depends on it, nor on those below.
     pub(crate) from: u32,
     pub(crate) group: Group,
@@ -31,7 +31,7 @@ pub(crate) struct Place {
 }
 
 /// The record whose link leads to one.
-pub(crate) fn before(places: &[Place], number: usize) -> Option<usize> {
+pub(crate) fn before(places: &[RecordNotes], number: usize) -> Option<usize> {
     let from = places.get(number)?.from as usize;
     if from == number { None } else { Some(from) }
 }
@@ -41,7 +41,7 @@ pub(crate) fn before(places: &[Place], number: usize) -> Option<usize> {
 pub(crate) struct Noted {
     pub(crate) first: usize,
     /// The run that began at the first one.
-    pub(crate) run: Option<Run>,
+    pub(crate) run: Option<ErasedRun>,
     pub(crate) united: United,
 }
 
@@ -53,7 +53,7 @@ pub(crate) struct Buried {
 }
 
 /// The last record of the run that begins here, as far as a walk at `g` passes over it; else this record.
-pub(crate) fn run_end(places: &[Place], number: usize, g: u64) -> usize
+pub(crate) fn run_end(places: &[RecordNotes], number: usize, g: u64) -> usize
     requires { number < length places.now }
     ensures { result ≡ end_at g number (slice_index_or places.now number no_place).run }
 {
@@ -64,7 +64,7 @@ pub(crate) fn run_end(places: &[Place], number: usize, g: u64) -> usize
 }
 
 /// The first record of the run that this one is in, where a walk at `g` passes over that; else this record.
-pub(crate) fn passed_from(places: &[Place], number: usize, g: u64) -> usize {
+pub(crate) fn passed_from(places: &[RecordNotes], number: usize, g: u64) -> usize {
     let first = first_of(places, number);
     match run_at(places, first) {
         Some(run) if run.latest < g => first,
@@ -74,7 +74,7 @@ pub(crate) fn passed_from(places: &[Place], number: usize, g: u64) -> usize {
 
 /// Takes note that a record is erased by a batch at a place, and joins it with the runs before it and behind it.
 pub(crate) fn bury(
-    places: &mut Vec<Place>,
+    places: &mut Vec<RecordNotes>,
     next: &[Option<u32>],
     number: usize,
     place: u64,
@@ -87,12 +87,12 @@ pub(crate) fn bury(
     bury_in(places.as_mut_slice(), next, number, place)
 }
 
-fn bury_in(places: &mut [Place], next: &[Option<u32>], number: usize, place: u64) -> Buried
+fn bury_in(places: &mut [RecordNotes], next: &[Option<u32>], number: usize, place: u64) -> Buried
     ensures runs { (c : Class) (rs : List Record) → IsLinked c rs next.now → ((d : Record) → IsGone place (slice_index_or rs number d).erased) → HasRuns c rs places.old → HasRuns c rs places.new }
     ensures noted { HadRuns result places.old places.new }
     ensures len { length places.new ≡ length places.old }
 {
-    let alone = Run {
+    let alone = ErasedRun {
         last: number,
         latest: place,
     };
@@ -106,13 +106,13 @@ fn bury_in(places: &mut [Place], next: &[Option<u32>], number: usize, place: u64
 }
 
 /// Where the run begins that ends with the record before this one, if that is erased.
-fn start_before(places: &[Place], number: usize) -> Option<usize> {
+fn start_before(places: &[RecordNotes], number: usize) -> Option<usize> {
     let from = before(places, number)?;
     Some(first_of(places, from))
 }
 
 /// Joins the run that begins here with the one behind it.
-fn lengthen(places: &mut [Place], next: &[Option<u32>], start: usize) -> Option<Noted>
+fn lengthen(places: &mut [RecordNotes], next: &[Option<u32>], start: usize) -> Option<Noted>
     ensures runs { (c : Class) (rs : List Record) → IsLinked c rs next.now → HasRuns c rs places.old → HasRuns c rs places.new }
     ensures noted { HadRun result places.old places.new }
     ensures len { length places.new ≡ length places.old }
@@ -127,7 +127,7 @@ fn lengthen(places: &mut [Place], next: &[Option<u32>], start: usize) -> Option<
 }
 
 /// The run that begins at a record, if there is the record and it is erased.
-fn run_at(places: &[Place], number: usize) -> Option<Run>
+fn run_at(places: &[RecordNotes], number: usize) -> Option<ErasedRun>
     ensures { result ≡ (slice_index_or places.now number no_place).run }
 {
     if number < places.len() {
@@ -138,11 +138,11 @@ fn run_at(places: &[Place], number: usize) -> Option<Run>
 }
 
 /// A run, with the one behind it.
-fn joined(places: &[Place], next: &[Option<u32>], own: Run) -> Run
+fn joined(places: &[RecordNotes], next: &[Option<u32>], own: ErasedRun) -> ErasedRun
     ensures { (c : Class) (rs : List Record) (i : ℕ) → IsLinked c rs next.now → HasRuns c rs places.now → IsRun c rs i own → IsRun c rs i result }
 {
     match run_behind(places, next, own.last) {
-        Some(run) => Run {
+        Some(run) => ErasedRun {
             last: run.last,
             latest: later(own.latest, run.latest),
         },
@@ -151,7 +151,7 @@ fn joined(places: &[Place], next: &[Option<u32>], own: Run) -> Run
 }
 
 /// The run that begins at the record to which the link of this one leads.
-fn run_behind(places: &[Place], next: &[Option<u32>], number: usize) -> Option<Run>
+fn run_behind(places: &[RecordNotes], next: &[Option<u32>], number: usize) -> Option<ErasedRun>
     ensures { (r : Ran) → result ≡ Some r → (n : ℕ) × (slice_index_or next.now number None ≡ Some n) × ((slice_index_or places.now n no_place).run ≡ Some r) }
 {
     if number < next.len() {
@@ -170,7 +170,7 @@ fn later(a: u64, b: u64) -> u64
 }
 
 /// Notes a run at its first record, and joins the groups of that and of its last one.
-fn begin(places: &mut [Place], first: usize, run: Run) -> Noted
+fn begin(places: &mut [RecordNotes], first: usize, run: ErasedRun) -> Noted
     ensures runs { (c : Class) (rs : List Record) → HasRuns c rs places.old → IsRun c rs first run → HasRuns c rs places.new }
     ensures noted { WasRun result places.old places.new }
     ensures len { length places.new ≡ length places.old }
@@ -186,14 +186,14 @@ fn begin(places: &mut [Place], first: usize, run: Run) -> Noted
 }
 
 /// Takes back what an erasure changed.
-pub(crate) fn unbury(places: &mut Vec<Place>, buried: &Buried)
-    ensures back { (xs : List Place) → HadRuns buried.now xs places.old.items → SameRuns xs places.new.items }
+pub(crate) fn unbury(places: &mut Vec<RecordNotes>, buried: &Buried)
+    ensures back { (xs : List RecordNotes) → HadRuns buried.now xs places.old.items → SameRuns xs places.new.items }
 {
     unbury_in(places.as_mut_slice(), buried);
 }
 
-fn unbury_in(places: &mut [Place], buried: &Buried)
-    ensures back { (xs : List Place) → HadRuns buried.now xs places.old → SameRuns xs places.new }
+fn unbury_in(places: &mut [RecordNotes], buried: &Buried)
+    ensures back { (xs : List RecordNotes) → HadRuns buried.now xs places.old → SameRuns xs places.new }
     ensures len { length places.new ≡ length places.old }
 {
     if let Some(noted) = &buried.before {
@@ -203,14 +203,14 @@ fn unbury_in(places: &mut [Place], buried: &Buried)
 }
 
 /// Notes again what was noted before a run was.
-fn unnote(places: &mut [Place], noted: &Noted)
+fn unnote(places: &mut [RecordNotes], noted: &Noted)
     ensures back { OneRun noted.now.first noted.now.run places.old places.new }
 {
     separate(places, &noted.united);
     set_run(places, noted.first, noted.run);
 }
 
-fn set_run(places: &mut [Place], first: usize, run: Option<Run>)
+fn set_run(places: &mut [RecordNotes], first: usize, run: Option<ErasedRun>)
     ensures set { OneRun first run places.old places.new }
 {
     if first < places.len() {
@@ -219,7 +219,7 @@ fn set_run(places: &mut [Place], first: usize, run: Option<Run>)
 }
 
 /// Notes of a record which one leads to it.
-fn set_from(places: &mut [Place], number: usize, from: usize)
+fn set_from(places: &mut [RecordNotes], number: usize, from: usize)
     ensures same { SameRuns places.old places.new }
 {
     if number < places.len() {
@@ -228,7 +228,7 @@ fn set_from(places: &mut [Place], number: usize, from: usize)
 }
 
 /// Appends the place of one more record, for which there is room.
-pub(crate) fn add_place(places: &mut Vec<Place>, front: bool, number: usize, ends: Ends)
+pub(crate) fn add_place(places: &mut Vec<RecordNotes>, front: bool, number: usize, ends: Ends)
     requires { vec_len places.old < vec_capacity places.old }
     ensures runs { (c : Class) (rs : List Record) (r : Record) → HasRuns c rs places.old.items → HasRuns c (rs ++ r ∷ []) places.new.items }
     ensures more { MoreRuns places.old.items places.new.items }
@@ -248,8 +248,8 @@ pub(crate) fn add_place(places: &mut Vec<Place>, front: bool, number: usize, end
 }
 
 /// Takes back the place of the last record.
-pub(crate) fn drop_place(places: &mut Vec<Place>, front: bool, ends: Ends)
-    ensures back { (xs : List Place) → MoreRuns xs places.old.items → SameRuns xs places.new.items }
+pub(crate) fn drop_place(places: &mut Vec<RecordNotes>, front: bool, ends: Ends)
+    ensures back { (xs : List RecordNotes) → MoreRuns xs places.old.items → SameRuns xs places.new.items }
 {
     places.pop();
     if !front {
@@ -260,14 +260,14 @@ pub(crate) fn drop_place(places: &mut Vec<Place>, front: bool, ends: Ends)
     }
 }
 
-fn append(places: &mut Vec<Place>, from: usize, number: usize, leap: Leap)
+fn append(places: &mut Vec<RecordNotes>, from: usize, number: usize, leap: Leap)
     requires { vec_len places.old < vec_capacity places.old }
     ensures runs { (c : Class) (rs : List Record) (r : Record) → HasRuns c rs places.old.items → HasRuns c (rs ++ r ∷ []) places.new.items }
     ensures more { MoreRuns places.old.items places.new.items }
     ensures room { vec_capacity places.old ≤ vec_capacity places.new }
     ensures len { vec_len places.new ≡ vec_len places.old + 1 }
 {
-    let place = Place {
+    let place = RecordNotes {
         run: None,
         from: short(from),
         group: alone(number),

@@ -26,7 +26,7 @@ use plgenerator::argument::text_of;
 use plgenerator::equation::{part_equation, split_equation};
 use plgenerator::part::all_parts;
 use plgenerator::split::all_splits;
-use plgenerator::turn::Turn;
+use plgenerator::turn::Remaining;
 use plgenerator::wanted::Sought;
 use plorder::shape::{Shape, shape_of};
 use plterm::term::Term;
@@ -137,7 +137,7 @@ fn parts(
         sought.after,
         sought.text,
     ]?;
-    Ok(Answer::Several(values, Turn::Part(part)))
+    Ok(Answer::Several(values, Remaining::Part(part)))
 }
 
 /// atom_concat/3 (8.16.2).
@@ -258,5 +258,5 @@ fn divided(
         return Ok(Answer::Solves(equation));
     }
     let values = vec![in alloc; *front, *back, *whole]?;
-    Ok(Answer::Several(values, Turn::Split(split)))
+    Ok(Answer::Several(values, Remaining::Split(split)))
 }

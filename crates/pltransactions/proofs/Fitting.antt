@@ -8,13 +8,13 @@ use Rattle.pltx.specs.declared.level.Level.{Level}
 use Rattle.pltx.specs.declared.target.Target.{Target}
 use Rattle.pltx.specs.declared.target.Target.TheVariants.{Own}
 use Rattle.pltx.specs.Own.{State, some_open, any_open, begun_at, begun, added, erased_in, erasing, target_at, made, all_made, ended_at, ended}
-use Rattle.plsearch.specs.Types.{Result, Stop, Fail, CutTo, Throw, Halted, Spent, Awaits, Stopped, Unfit, Element, Place, Case, Choice, Mark, Handle, Move, Give, Go}
+use Rattle.plsearch.specs.Types.{Result, Stop, Fail, CutTo, Throw, Halted, Spent, Awaits, Stopped, Unfit, Element, Resolvent, Case, Choice, Mark, Handle, Move, Give, Go}
 use Rattle.plsearch.specs.Engine.{deeper}
 use Rattle.plsearch.specs.Machines.Machine.{Mode, At, Back, Machine}
 use Rattle.pltransactions.proofs.Contexts.{Choosing, Entry, entry, upto, around, undos, Fits, FitsFirst, Stands}
 use Rattle.pltransactions.proofs.Balls.{named, HandlersFit}
 
-abbrev pub PlacesFit : List Entry → List Place → Type 0
+abbrev pub PlacesFit : List Entry → List Resolvent → Type 0
 PlacesFit Γ [] = Unit {0}
 PlacesFit Γ (p ∷ ps) = Fits Γ p.goals × PlacesFit Γ ps
 

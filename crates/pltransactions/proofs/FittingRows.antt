@@ -31,7 +31,7 @@ use Rattle.plbuiltin.specs.Lists.{may_be_list}
 use Rattle.plbuiltin.specs.Solution.{Solution, Solved, Gives, Raises as Refuses}
 use Rattle.plbuiltin.specs.Solutions.{solutions}
 use Rattle.plsearch.specs.Errors.{error_term}
-use Rattle.plsearch.specs.Types.{Fail, Throw, Halted, Stopped, Unfit, Commit, Never, Until, Collect, Transact, Then, GoesOn, Ends, Lookup, ToCall, ToRetrieve, ToRetract, ToRetractAll, Question, Look, Begin, Await, Erase, Element, Goal, Marker, Asking, Place, Case, Choice, Mark, Local, Move, Give, Go}
+use Rattle.plsearch.specs.Types.{Fail, Throw, Halted, Stopped, Unfit, Commit, Never, Until, Collect, Transact, Then, GoesOn, Ends, Lookup, ToCall, ToRetrieve, ToRetract, ToRetractAll, Question, Look, Begin, Await, Erase, Element, Goal, Marker, Asking, Resolvent, Case, Choice, Mark, Local, Move, Give, Go}
 use Rattle.plsearch.specs.Lists.{bind_goals, levels}
 use Rattle.plsearch.specs.Forms.{Form, True, False, Both, Either, IfThenElse, Not, Once, Catching, FindAll, Within, Throwing, CallWith, Cut, Halting, Adding, Retrieving, Retracting, RetractingAll, Declaring, BuiltIn, Call, NoGoal, form}
 use Rattle.plsearch.specs.Running.{Runnable, Runs, Raises, runnable, called}
@@ -99,11 +99,11 @@ module _ (cs : List Case) (fit : CasesFit cs) where
   raises e p rest w all is = throws (copied 0 (error_term e p)) rest w all is
 
   -- a list is visited in a choice at the level d
-  in-choice : (ps : List Place) (p : Place) (w : Local) → PlacesFit Inner ps → Fits Inner p.goals → Open w → MoveFits cs (Go (Choice ps ∷ []) p w)
+  in-choice : (ps : List Resolvent) (p : Resolvent) (w : Local) → PlacesFit Inner ps → Fits Inner p.goals → Open w → MoveFits cs (Go (Choice ps ∷ []) p w)
   unfolding MoveFits CasesFit around
   in-choice ps p w others first is = ((others, fit), record { list = fits-first Inner w.own p.goals first; open_here = is })
 
-  chooses : (ps : List Place) (w : Local) → PlacesFit Inner ps → Open w → MoveFits cs (choose ps w)
+  chooses : (ps : List Resolvent) (w : Local) → PlacesFit Inner ps → Open w → MoveFits cs (choose ps w)
   chooses [] w all is = give-up w is
   chooses (p ∷ ps) w all is = in-choice ps p w all.1 all.0 is
 
@@ -119,7 +119,7 @@ module _ (cs : List Case) (fit : CasesFit cs) where
   body-fits true t es all = all
   body-fits false t es all = at-level t es all
 
-  place-fits : (n : ℕ) (t : Tree) (rest : List Element) → Fits Γ rest → (c : Clause) (ps : List Place) → PlacesFit Inner ps → PlacesFit Inner (cons_option (resolve d n t rest c) ps)
+  place-fits : (n : ℕ) (t : Tree) (rest : List Element) → Fits Γ rest → (c : Clause) (ps : List Resolvent) → PlacesFit Inner ps → PlacesFit Inner (cons_option (resolve d n t rest c) ps)
   place-fits n t rest all c ps others = go (unify t (shift n c.head))
     where
       go : (o : Option (ℕ → Tree)) →

@@ -18,7 +18,7 @@ use Rattle.pltx.specs.declared.level.Isolation.TheVariants.{Transaction, Snapsho
 use Rattle.pltx.specs.declared.level.Isolation.{Isolation}
 use Rattle.plprogram.specs.Program.{Program}
 use Rattle.plbuiltin.specs.Solution.{Solution}
-use Rattle.plsearch.specs.Types.{Result, Stop, Fail, CutTo, Throw, Halted, Spent, Awaits, Stopped, Unfit, Commit, Never, Until, Collect, Transact, Question, Element, Goal, Marker, Raise, Asking, Place, Case, Choice, Mark, Handle, Handler, Catch, Gather, Undo, Local, Move, Give, Go, Asks, End, Pass, Return, Keep, Again, Anew, Run}
+use Rattle.plsearch.specs.Types.{Result, Stop, Fail, CutTo, Throw, Halted, Spent, Awaits, Stopped, Unfit, Commit, Never, Until, Collect, Transact, Question, Element, Goal, Marker, Raise, Asking, Resolvent, Case, Choice, Mark, Handle, Handler, Catch, Gather, Undo, Local, Move, Give, Go, Asks, End, Pass, Return, Keep, Again, Anew, Supply}
 use Rattle.plsearch.specs.Lists.{bind_goals, levels}
 use Rattle.plsearch.specs.Running.{Runnable, Runs, Raises, runnable}
 use Rattle.plsearch.specs.Collecting.{copies_from, dropped, gathered}
@@ -34,7 +34,7 @@ use Rattle.pltransactions.proofs.Balls.{named_with, named, HandlersFit, thrown-f
 use Rattle.pltransactions.proofs.Fitting.{HasChoice, CasesFit, PlaceFits, CutFits, ResultFits, ModeFits, Fitting, MoveFits, stands-ended, stands-made}
 use Rattle.pltransactions.proofs.FittingRows.{select-fits, answered-fits}
 
-move-fits : (cs : List Case) → CasesFit cs → (run : Run) (m : Move) → MoveFits cs m → Fitting (move cs run m)
+move-fits : (cs : List Case) → CasesFit cs → (run : Supply) (m : Move) → MoveFits cs m → Fitting (move cs run m)
 unfolding MoveFits
 move-fits cs fit run (Give r w) h = record { outside = fit; here = h }
 move-fits cs fit run (Go new p w) h = record { outside = h.0; here = h.1 }
@@ -78,13 +78,13 @@ unfolding FitsFirst
 publishing-fits Σ x [] es closed all = fits-first Σ x es all
 publishing-fits Σ x (u ∷ us) es closed all = (inl (closed u us refl), all)
 
-ask-fits : (cs : List Case) → CasesFit cs → (e : Element) (es : List Element) (n : ℕ) (q : Item) (run : Run) (xs : List Answer) → Fits (around cs) es → Stands run.local.own (undos (around cs)) →
+ask-fits : (cs : List Case) → CasesFit cs → (e : Element) (es : List Element) (n : ℕ) (q : Item) (run : Supply) (xs : List Answer) → Fits (around cs) es → Stands run.local.own (undos (around cs)) →
     Fitting (ask cs e es n q run xs)
 unfolding ResultFits
 ask-fits cs fit e es n q run [] all is = record { outside = fit; here = tt }
 ask-fits cs fit e es n q run (a ∷ more) all is = move-fits cs fit (record run { answers = more; below = founded e a run.below }) (answered e a (deeper cs 0) es n run.local) (answered-fits cs fit e a es n run.local all is)
 
-erasing-fits : (P : Program) (cs : List Case) → CasesFit cs → (x : ClauseName) (es : List Element) (n : ℕ) (run : Run) → Fits (around cs) es → Stands run.local.own (undos (around cs)) →
+erasing-fits : (P : Program) (cs : List Case) → CasesFit cs → (x : ClauseName) (es : List Element) (n : ℕ) (run : Supply) → Fits (around cs) es → Stands run.local.own (undos (around cs)) →
     Fitting (meets P cs (Asking (Question.Erase x)) es n run (erasing x run.local))
 unfolding ResultFits
 erasing-fits P cs fit x es n run all is = go (any_open run.local.own) refl (erased_in (target_at run.local.own.base x) run.local.own.updates)
@@ -95,7 +95,7 @@ erasing-fits P cs fit x es n run all is = go (any_open run.local.own) refl (eras
     go true now true = record { outside = fit; here = is }
     go true now false = record { outside = fit; here = record { list = fits-first (around cs) _ es all; open_here = stands-made (Erase x ∷ []) run.local.own (undos (around cs)) now is } }
 
-visits-fit : (P : Program) (cs : List Case) → CasesFit cs → (es : List Element) (n : ℕ) (run : Run) → FitsFirst (around cs) run.local.own es → Stands run.local.own (undos (around cs)) → Fitting (visits P cs es n run)
+visits-fit : (P : Program) (cs : List Case) → CasesFit cs → (es : List Element) (n : ℕ) (run : Supply) → FitsFirst (around cs) run.local.own es → Stands run.local.own (undos (around cs)) → Fitting (visits P cs es n run)
 unfolding meet FitsFirst Fits ResultFits
 visits-fit P cs fit [] n run all is = record { outside = fit; here = subst (Stands run.local.own) all is }
 visits-fit P cs fit (Goal k t ∷ es) n run all is = go run.steps
@@ -135,7 +135,7 @@ unlike l d lt = grind (arith, nat_tests)
 itself : (d : ℕ) → nat_eq d d ≡ true
 itself d = grind (arith, nat_tests)
 
-cut-choice : (cs : List Case) (ps : List Place) (x : State) (l : ℕ) → CutFits (Choice ps ∷ cs) x l → ResultFits cs x (stop_cut (deeper cs 0) (CutTo l))
+cut-choice : (cs : List Case) (ps : List Resolvent) (x : State) (l : ℕ) → CutFits (Choice ps ∷ cs) x l → ResultFits cs x (stop_cut (deeper cs 0) (CutTo l))
 unfolding around ResultFits
 cut-choice cs ps x l h = go (either-le (deeper cs 0) l)
   where
@@ -156,7 +156,7 @@ cut-choice cs ps x l h = go (either-le (deeper cs 0) l)
         let is : stop_cut (deeper cs 0) (CutTo l) ≡ CutTo l = rw (unlike l (deeper cs 0) lt) refl in
         subst (ResultFits cs x) (sym is) (record { choice = (h.choice.0, sym past ∙ h.choice.1); open_here = subst (λ Σ. Stands x (undos Σ)) past h.open_here })
 
-choice-fits : (cs : List Case) (ps : List Place) (x : State) (r : Result) → ResultFits (Choice ps ∷ cs) x r → ResultFits cs x (stop_cut (deeper cs 0) r)
+choice-fits : (cs : List Case) (ps : List Resolvent) (x : State) (r : Result) → ResultFits (Choice ps ∷ cs) x r → ResultFits cs x (stop_cut (deeper cs 0) r)
 unfolding ResultFits around named HandlersFit
 choice-fits cs ps x Stop h = h
 choice-fits cs ps x Fail h = h
@@ -168,7 +168,7 @@ choice-fits cs ps x (Awaits q) h = tt
 choice-fits cs ps x Stopped h = tt
 choice-fits cs ps x Unfit h = tt
 
-chooses-fit : (cs : List Case) (run : Run) (ps : List Place) (r : Result) → CasesFit (Choice ps ∷ cs) → ResultFits (Choice ps ∷ cs) run.local.own r → Fitting (choose cs run ps r)
+chooses-fit : (cs : List Case) (run : Supply) (ps : List Resolvent) (r : Result) → CasesFit (Choice ps ∷ cs) → ResultFits (Choice ps ∷ cs) run.local.own r → Fitting (choose cs run ps r)
 unfolding CasesFit ResultFits around
 chooses-fit cs run (p ∷ ps) Fail fit h = record { outside = (fit.0.1, fit.1); here = record { list = fits-first _ run.local.own p.goals fit.0.0; open_here = h } }
 chooses-fit cs run [] Fail fit h = record { outside = fit.1; here = choice-fits cs [] run.local.own Fail h }
@@ -191,7 +191,7 @@ mark-fits cs l x Stopped has-it h = tt
 mark-fits cs l x Unfit has-it h = tt
 
 -- outside of a handler
-handler-cut : (cs : List Case) (h : Handler) (p : Place) (x : State) (l : ℕ) → CutFits (Handle h p ∷ cs) x l → CutFits cs x l
+handler-cut : (cs : List Case) (h : Handler) (p : Resolvent) (x : State) (l : ℕ) → CutFits (Handle h p ∷ cs) x l → CutFits cs x l
 unfolding around
 handler-cut cs h p x l fit = go (either-le (deeper cs 0) l)
   where
@@ -215,13 +215,13 @@ ReturnFits cs (Keep r w) = ResultFits cs w.own r
 ReturnFits cs (Again p w) = PlaceFits cs w.own p.goals
 ReturnFits cs (Anew p w) = PlaceFits (Choice [] ∷ cs) w.own p.goals
 
-return-fits : (cs : List Case) → CasesFit cs → (run : Run) (b : Return) → ReturnFits cs b → Fitting (return cs run b)
+return-fits : (cs : List Case) → CasesFit cs → (run : Supply) (b : Return) → ReturnFits cs b → Fitting (return cs run b)
 unfolding ReturnFits CasesFit
 return-fits cs fit run (Keep r w) h = record { outside = fit; here = h }
 return-fits cs fit run (Again p w) h = record { outside = fit; here = h }
 return-fits cs fit run (Anew p w) h = record { outside = (tt, fit); here = h }
 
-resume-fits : (cs : List Case) (h : Handler) (p : Place) (r : Result) (w : Local) → Fits (around cs) p.goals → ResultFits (Handle h p ∷ cs) w.own r → ReturnFits cs (resume h p (deeper cs 0) r w)
+resume-fits : (cs : List Case) (h : Handler) (p : Resolvent) (r : Result) (w : Local) → Fits (around cs) p.goals → ResultFits (Handle h p ∷ cs) w.own r → ReturnFits cs (resume h p (deeper cs 0) r w)
 unfolding resume ReturnFits ResultFits around named HandlersFit Fits FitsFirst
 resume-fits cs (Catch c r) p (Throw b ls) w all ball = go (has (deeper cs 0) ls) refl
   where
@@ -277,7 +277,7 @@ resume-fits cs Undo p (Awaits q) w all h = tt
 resume-fits cs Undo p Stopped w all h = tt
 resume-fits cs Undo p Unfit w all h = tt
 
-backs-fit : (r : Result) (run : Run) (cs : List Case) → CasesFit cs → ResultFits cs run.local.own r → Fitting (backs r run cs)
+backs-fit : (r : Result) (run : Supply) (cs : List Case) → CasesFit cs → ResultFits cs run.local.own r → Fitting (backs r run cs)
 unfolding CasesFit
 backs-fit r run [] fit h = record { outside = fit; here = h }
 backs-fit r run (Choice ps ∷ cs) fit h = chooses-fit cs run ps r fit h

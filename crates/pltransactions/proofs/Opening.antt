@@ -30,7 +30,7 @@ use Rattle.plbuiltin.specs.Errors.{type_error}
 use Rattle.plbuiltin.specs.Lists.{may_be_list}
 use Rattle.plbuiltin.specs.Solution.{Solution, Solved, Gives, Raises as Refuses}
 use Rattle.plbuiltin.specs.Solutions.{solutions}
-use Rattle.plsearch.specs.Types.{Result, Fail, Throw, Commit, Never, Until, Collect, Transact, Then, GoesOn, Ends, Lookup, ToCall, ToRetrieve, ToRetract, ToRetractAll, Question, Look, Begin, Await, Element, Goal, Marker, Raise, Asking, Place, Case, Choice, Mark, Handle, Handler, Catch, Gather, Undo, Local, Move, Give, Go, Asks, End, Pass, Return, Keep, Again, Anew, Run}
+use Rattle.plsearch.specs.Types.{Result, Fail, Throw, Commit, Never, Until, Collect, Transact, Then, GoesOn, Ends, Lookup, ToCall, ToRetrieve, ToRetract, ToRetractAll, Question, Look, Begin, Await, Element, Goal, Marker, Raise, Asking, Resolvent, Case, Choice, Mark, Handle, Handler, Catch, Gather, Undo, Local, Move, Give, Go, Asks, End, Pass, Return, Keep, Again, Anew, Supply}
 use Rattle.plsearch.specs.Lists.{bind_goals}
 use Rattle.plsearch.specs.Forms.{Form, True, False, Both, Either, IfThenElse, Not, Once, Catching, FindAll, Within, Throwing, CallWith, Cut, Halting, Adding, Retrieving, Retracting, RetractingAll, Declaring, BuiltIn, Call, NoGoal, form}
 use Rattle.plsearch.specs.Running.{Runnable, Runs, Raises, runnable}
@@ -71,7 +71,7 @@ raised-keeps : (e : Tree) (p : Indicator) (es : List Element) (w : Local) → Ke
 unfolding raised
 raised-keeps e p es w = refl
 
-choose-keeps : (ps : List Place) (w : Local) → Keeps w (choose ps w)
+choose-keeps : (ps : List Resolvent) (w : Local) → Keeps w (choose ps w)
 choose-keeps [] w = refl
 choose-keeps (p ∷ ps) w = refl
 
@@ -122,7 +122,7 @@ user-keeps : (below : List Stamped) (xs : List Clause) (d : ℕ) (t : Tree) (res
 user-keeps below [] d t rest n w = seek-keeps below (ToCall t) d rest n w
 user-keeps below (x ∷ xs) d t rest n w = choose-keeps (filter_map (resolve d n t rest) (x ∷ xs)) w
 
-taken-keeps : (o : Option Place) (w : Local) → Keeps w (taken o w)
+taken-keeps : (o : Option Resolvent) (w : Local) → Keeps w (taken o w)
 taken-keeps None w = refl
 taken-keeps (Some p) w = refl
 
@@ -193,14 +193,14 @@ ended-closed success x closed = go x.levels closed closed
     go (l ∷ ls) is closed = cc
 
 -- of a turn at a list whose first element asks for an item
-abbrev AtList : Run → List Element → State → Type 0
+abbrev AtList : Supply → List Element → State → Type 0
 AtList run es new = Does run.local.own new (IsAtMarker es) (asked_first es run.local ≡ Some View)
 
-move-does : (cases : List Case) (run : Run) (m : Move) (es : List Element) → Keeps run.local m → AtList run es (move cases run m).run.local.own
+move-does : (cases : List Case) (run : Supply) (m : Move) (es : List Element) → Keeps run.local m → AtList run es (move cases run m).run.local.own
 move-does cases run (Give r w) es h = Same h
 move-does cases run (Go cs p w) es h = Same h
 
-asking-does : (cases : List Case) (q : Question) (es : List Element) (n : ℕ) (run : Run) (xs : List Answer) → AtList run (Asking q ∷ es) (ask cases (Asking q) es n (asked q) run xs).run.local.own
+asking-does : (cases : List Case) (q : Question) (es : List Element) (n : ℕ) (run : Supply) (xs : List Answer) → AtList run (Asking q ∷ es) (ask cases (Asking q) es n (asked q) run xs).run.local.own
 unfolding answered meet
 asking-does cases q es n run [] = Same refl
 asking-does cases (Look u) es n run (Seen g us ∷ more) =
@@ -215,7 +215,7 @@ asking-does cases (Question.Erase x) es n run (Got r ∷ more) =
     move-does cases (record run { answers = more }) (follows (outcome (EraseOne x) r) GoesOn es n run.local) (Asking (Question.Erase x) ∷ es) (follows-keeps (outcome (EraseOne x) r) GoesOn es n run.local)
 asking-does cases (Question.Erase x) es n run (Seen g us ∷ more) = Same refl
 
-erasing-does : (P : Program) (cases : List Case) (x : ClauseName) (es : List Element) (n : ℕ) (run : Run) →
+erasing-does : (P : Program) (cases : List Case) (x : ClauseName) (es : List Element) (n : ℕ) (run : Supply) →
     AtList run (Asking (Question.Erase x) ∷ es) (meets P cases (Asking (Question.Erase x)) es n run (erasing x run.local)).run.local.own
 erasing-does P cases x es n run = go (not (any_open run.local.own)) (erased_in (target_at run.local.own.base x) run.local.own.updates)
   where
@@ -225,7 +225,7 @@ erasing-does P cases x es n run = go (not (any_open run.local.own)) (erased_in (
     go false true = Same refl
     go false false = Same (made-keeps (Erase x ∷ []) run.local.own)
 
-visits-do : (P : Program) (cases : List Case) (es : List Element) (n : ℕ) (run : Run) → AtList run es (visits P cases es n run).run.local.own
+visits-do : (P : Program) (cases : List Case) (es : List Element) (n : ℕ) (run : Supply) → AtList run es (visits P cases es n run).run.local.own
 unfolding meet
 visits-do P cases [] n run = Same refl
 visits-do P cases (Goal k t ∷ es) n run = go run.steps
@@ -244,7 +244,7 @@ visits-do P cases (Asking (Question.Erase x) ∷ es) n run = erasing-does P case
 visits-do P cases (Asking q ∷ es) n run = asking-does cases q es n run run.answers
 
 -- of a turn with a result
-choose-does : (cases : List Case) (run : Run) (ps : List Place) (r : Result) → any_open (chooses cases run ps r).run.local.own ≡ any_open run.local.own
+choose-does : (cases : List Case) (run : Supply) (ps : List Resolvent) (r : Result) → any_open (chooses cases run ps r).run.local.own ≡ any_open run.local.own
 choose-does cases run (p ∷ ps) Fail = refl
 choose-does cases run [] Fail = refl
 choose-does cases run (p ∷ ps) r = refl
@@ -255,12 +255,12 @@ return_local (Keep r w) = w
 return_local (Again p w) = w
 return_local (Anew p w) = w
 
-return-is : (cases : List Case) (run : Run) (b : Return) → (return cases run b).run.local ≡ return_local b
+return-is : (cases : List Case) (run : Supply) (b : Return) → (return cases run b).run.local ≡ return_local b
 return-is cases run (Keep r w) = refl
 return-is cases run (Again p w) = refl
 return-is cases run (Anew p w) = refl
 
-resume-does : (h : Handler) (p : Place) (d : ℕ) (r : Result) (w : Local) (cases : List Case) → Does w.own (return_local (resume h p d r w)).own (IsAtUndo (Handle h p ∷ cases)) ⊥
+resume-does : (h : Handler) (p : Resolvent) (d : ℕ) (r : Result) (w : Local) (cases : List Case) → Does w.own (return_local (resume h p d r w)).own (IsAtUndo (Handle h p ∷ cases)) ⊥
 unfolding resume
 resume-does (Catch c r) p d (Throw b ls) w cases = Same (go (has d ls))
   where
@@ -278,7 +278,7 @@ resume-does (Catch c r) p d (Throw b ls) w cases = Same (go (has d ls))
 resume-does (Catch c r) p d x w cases = Same refl
 resume-does (Gather l) p d Fail w cases = Same (go (solved p.goals p.variables (gathered l (copies_from d w.kept) p.variables)))
   where
-    go : (o : Option Place) → any_open (return_local (goes_on o (dropped d w))).own ≡ any_open w.own
+    go : (o : Option Resolvent) → any_open (return_local (goes_on o (dropped d w))).own ≡ any_open w.own
     go None = refl
     go (Some p) = refl
 resume-does (Gather l) p d x w cases = Same refl
@@ -294,7 +294,7 @@ turn-does : (P : Program) (m : Machine) → Does m.run.local.own (turn P m).run.
 unfolding turn
 turn-does P m = go m.mode
   where
-    with_handler : (h : Handler) (p : Place) (r : Result) (cases : List Case) → Does m.run.local.own (return_local (resume h p (deeper cases 0) r m.run.local)).own (IsAtUndo (Handle h p ∷ cases)) ⊥ →
+    with_handler : (h : Handler) (p : Resolvent) (r : Result) (cases : List Case) → Does m.run.local.own (return_local (resume h p (deeper cases 0) r m.run.local)).own (IsAtUndo (Handle h p ∷ cases)) ⊥ →
         Does m.run.local.own (return cases m.run (resume h p (deeper cases 0) r m.run.local)).run.local.own (IsAtUndo (Handle h p ∷ cases)) (◌≡◌ {A = Option Item} None (Some View))
     with_handler h p r cases (Same is) = Same (ap (λ w. any_open w.own) (return-is cases m.run (resume h p (deeper cases 0) r m.run.local)) ∙ is)
     with_handler h p r cases (Opens no-view is) = absurd no-view

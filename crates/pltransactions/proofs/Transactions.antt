@@ -13,7 +13,7 @@ use Rattle.pltx.specs.declared.level.Level.{Level}
 use Rattle.pltx.specs.declared.level.Isolation.{Isolation}
 use Rattle.pltx.specs.declared.level.Isolation.TheVariants.{Transaction, Snapshot}
 use Rattle.plprogram.specs.Program.{Program}
-use Rattle.plsearch.specs.Types.{Result, Stop, Fail, CutTo, Throw, Halted, Awaits, Stopped, Unfit, Commit, Never, Until, Collect, Transact, Ends, Question, Await, Element, Goal, Marker, Raise, Asking, Place, Case, Choice, Mark, Handle, Undo, Local, Move, Give, Go, Meeting, Select, Asks, End, Pass, Marked, Return, Keep, Again, Anew, Run}
+use Rattle.plsearch.specs.Types.{Result, Stop, Fail, CutTo, Throw, Halted, Awaits, Stopped, Unfit, Commit, Never, Until, Collect, Transact, Ends, Question, Await, Element, Goal, Marker, Raise, Asking, Resolvent, Case, Choice, Mark, Handle, Undo, Local, Move, Give, Go, Meeting, Select, Asks, End, Pass, Marked, Return, Keep, Again, Anew, Supply}
 use Rattle.plsearch.specs.Moves.{publishing}
 use Rattle.plsearch.specs.Rows.{select, asked, published, meet}
 use Rattle.plsearch.specs.Replies.{answered, founded}
@@ -57,7 +57,7 @@ reached-fits P m (steps, answers, k, is) = subst Fitting (sym is) (turns-fit P k
 
 -- the machine comes to the end of its turns
 abbrev Finishes : Program → Machine → Type 0
-Finishes P m = (k : ℕ) × (r : Result) × (run : Run) × (turns P k m ≡ record { mode = Back r; cases = []; run = run })
+Finishes P m = (k : ℕ) × (r : Result) × (run : Supply) × (turns P k m ≡ record { mode = Back r; cases = []; run = run })
 
 one-more : (P : Program) (m : Machine) → Finishes P (turn P m) → Finishes P m
 one-more P m (k, r, run, is) = (suc k, r, run, is)
@@ -109,11 +109,11 @@ search-by-turns P limit n answers =
     (end.0, end.1, end.2, end.3, ap (ending_of (min n limit)) (turns-rest P end.0 start ∙ ap (Rest P) end.3))
 
 -- answers are taken by what asks alone
-move-answers : (cases : List Case) (run : Run) (m : Move) → (move cases run m).run.answers ≡ run.answers
+move-answers : (cases : List Case) (run : Supply) (m : Move) → (move cases run m).run.answers ≡ run.answers
 move-answers cases run (Give r w) = refl
 move-answers cases run (Go cs p w) = refl
 
-meets-answers : (P : Program) (cases : List Case) (e : Element) (es : List Element) (n : ℕ) (run : Run) (m : Meeting) →
+meets-answers : (P : Program) (cases : List Case) (e : Element) (es : List Element) (n : ℕ) (run : Supply) (m : Meeting) →
     (meets P cases e es n run m).run.answers ≡ left_of (asked_by m) run.answers
 meets-answers P cases e es n run (Select k t) = go run.steps
   where
@@ -129,24 +129,24 @@ meets-answers P cases e es n run (End r w) = refl
 meets-answers P cases e es n run (Pass w) = refl
 meets-answers P cases e es n run (Marked l us w) = refl
 
-choose-answers : (cases : List Case) (run : Run) (ps : List Place) (r : Result) → (choose cases run ps r).run.answers ≡ run.answers
+choose-answers : (cases : List Case) (run : Supply) (ps : List Resolvent) (r : Result) → (choose cases run ps r).run.answers ≡ run.answers
 choose-answers cases run (p ∷ ps) Fail = refl
 choose-answers cases run [] Fail = refl
 choose-answers cases run (p ∷ ps) r = refl
 choose-answers cases run [] r = refl
 
-return-answers : (cases : List Case) (run : Run) (b : Return) → (return cases run b).run.answers ≡ run.answers
+return-answers : (cases : List Case) (run : Supply) (b : Return) → (return cases run b).run.answers ≡ run.answers
 return-answers cases run (Keep r w) = refl
 return-answers cases run (Again p w) = refl
 return-answers cases run (Anew p w) = refl
 
-backs-answers : (r : Result) (run : Run) (cases : List Case) → (backs r run cases).run.answers ≡ run.answers
+backs-answers : (r : Result) (run : Supply) (cases : List Case) → (backs r run cases).run.answers ≡ run.answers
 backs-answers r run [] = refl
 backs-answers r run (Choice ps ∷ cases) = choose-answers cases run ps r
 backs-answers r run (Mark l ∷ cases) = refl
 backs-answers r run (Handle h p ∷ cases) = return-answers cases run (resume h p (deeper cases 0) r run.local)
 
-visits-answers : (P : Program) (cases : List Case) (es : List Element) (n : ℕ) (run : Run) → (visits P cases es n run).run.answers ≡ left_of (asked_first es run.local) run.answers
+visits-answers : (P : Program) (cases : List Case) (es : List Element) (n : ℕ) (run : Supply) → (visits P cases es n run).run.answers ≡ left_of (asked_first es run.local) run.answers
 visits-answers P cases [] n run = refl
 visits-answers P cases (e ∷ es) n run = meets-answers P cases e es n run (meet e es run.local)
 
@@ -183,7 +183,7 @@ waits-for-what-it-asks P m q is none = go m.mode is
 -- a list at which the end of the run is asked for
 record AsksToHalt (mode : Mode) (q : Item) : Type 0 where
   number : ℕ
-  behind : Place
+  behind : Resolvent
   at : mode ≡ At (record { goals = Asking (Await (HaltRun number) (Ends number)) ∷ behind.goals; variables = behind.variables })
   item : q ≡ Ask (HaltRun number)
 

@@ -8,7 +8,7 @@ use Rattle.pltx.specs.declared.level.Isolation.{Isolation}
 use Rattle.pltx.specs.declared.level.Isolation.TheVariants.{Transaction, Snapshot}
 use Rattle.pltx.specs.declared.level.Level.{Level}
 use Rattle.plprogram.specs.Program.{Program}
-use Rattle.plsearch.specs.Types.{Result, Stop, Fail, CutTo, Throw, Halted, Awaits, Stopped, Unfit, Kind, Transact, Element, Goal, Marker, Raise, Asking, Place, Case, Choice, Mark, Handle, Undo, Local, Meeting, Asks, Run}
+use Rattle.plsearch.specs.Types.{Result, Stop, Fail, CutTo, Throw, Halted, Awaits, Stopped, Unfit, Kind, Transact, Element, Goal, Marker, Raise, Asking, Resolvent, Case, Choice, Mark, Handle, Undo, Local, Meeting, Asks, Supply}
 use Rattle.plsearch.specs.Moves.{publishing}
 use Rattle.plsearch.specs.Rows.{meet}
 use Rattle.plsearch.specs.Handlers.{has}
@@ -31,7 +31,7 @@ IsReached P m = (steps : ℕ) × (answers : List Answer) × (k : ℕ) × (m ≡ 
 
 -- the machine's turns end as the search does
 abbrev pub SearchByTurns : Type 0
-SearchByTurns = (P : Program) (limit n : ℕ) (answers : List Answer) → (k : ℕ) × (r : Result) × (run : Run)
+SearchByTurns = (P : Program) (limit n : ℕ) (answers : List Answer) → (k : ℕ) × (r : Result) × (run : Supply)
     × (turns P k (machine_of P (min n limit) answers) ≡ record { mode = Back r; cases = []; run = run })
     × (search_of P limit n answers ≡ ending_of (min n limit) (r, run))
 
@@ -101,7 +101,7 @@ OpenAnswerEnds = (P : Program) (m : Machine) (n : ℕ) (a : Answer) (more : List
     wanted m ≡ Some (Ask (HaltRun n)) → m.run.answers ≡ a ∷ more → (r : Result) × IsLast n r × ((turn P m).mode ≡ Back r) × ((turn P m).run.local ≡ m.run.local)
 
 -- at its end with success
-abbrev pub at_end : ℕ → ℕ → Place → List Case → Run → Machine
+abbrev pub at_end : ℕ → ℕ → Resolvent → List Case → Supply → Machine
 at_end d l p cases run = record { mode = At (record { goals = Marker (Transact d) l ∷ p.goals; variables = p.variables }); cases = cases; run = run }
 
 -- the updates that are published there
@@ -111,7 +111,7 @@ its_updates Snapshot us = []
 
 -- the end of the outermost one asks for its updates to be published, if it is a transaction and has any, and leaves nothing
 abbrev pub OuterEndPublishes : Type 0
-OuterEndPublishes = (P : Program) (d l : ℕ) (p : Place) (cases : List Case) (run : Run) (level : Level) → run.local.own.levels ≡ level ∷ [] →
+OuterEndPublishes = (P : Program) (d l : ℕ) (p : Resolvent) (cases : List Case) (run : Supply) (level : Level) → run.local.own.levels ≡ level ∷ [] →
     turn P (at_end d l p cases run) ≡ record {
       mode = At (record { goals = publishing (its_updates level.kind run.local.own.updates) p.goals; variables = p.variables });
       cases = Mark d ∷ cases;
@@ -120,7 +120,7 @@ OuterEndPublishes = (P : Program) (d l : ℕ) (p : Place) (cases : List Case) (r
 
 -- that of an inner one asks nothing
 abbrev pub InnerEndAsksNothing : Type 0
-InnerEndAsksNothing = (P : Program) (d l : ℕ) (p : Place) (cases : List Case) (run : Run) (level outer : Level) (levels : List Level) → run.local.own.levels ≡ level ∷ outer ∷ levels →
+InnerEndAsksNothing = (P : Program) (d l : ℕ) (p : Resolvent) (cases : List Case) (run : Supply) (level outer : Level) (levels : List Level) → run.local.own.levels ≡ level ∷ outer ∷ levels →
     turn P (at_end d l p cases run) ≡ record { mode = At p; cases = Mark d ∷ cases; run = record run { local = record run.local { own = ended true run.local.own } } }
 
 -- how many ends a list has before it
@@ -137,7 +137,7 @@ ends (Asking q ∷ es) = ends es
 
 -- as many are open as the list has ends
 abbrev pub OpenHaveEnds : Type 0
-OpenHaveEnds = (P : Program) (m : Machine) (p : Place) → IsReached P m → m.mode ≡ At p → length m.run.local.own.levels ≡ ends p.goals
+OpenHaveEnds = (P : Program) (m : Machine) (p : Resolvent) → IsReached P m → m.mode ≡ At p → length m.run.local.own.levels ≡ ends p.goals
 
 -- what is open at the level d ends without success
 abbrev pub IsUndone : ℕ → Result → Type 0
@@ -147,7 +147,7 @@ IsUndone d r = ⊥
 
 -- Undo ends what it began: as many are left open as the list behind its goal has ends
 abbrev pub UndoEndsOne : Type 0
-UndoEndsOne = (P : Program) (r : Result) (p : Place) (cases : List Case) (run : Run) →
+UndoEndsOne = (P : Program) (r : Result) (p : Resolvent) (cases : List Case) (run : Supply) →
     IsReached P (record { mode = Back r; cases = Handle Undo p ∷ cases; run = run }) → IsUndone (deeper cases 0) r →
     length (turn P (record { mode = Back r; cases = Handle Undo p ∷ cases; run = run })).run.local.own.levels ≡ ends p.goals
 
@@ -161,4 +161,4 @@ IsDone r = ⊥
 
 -- nothing is left open then
 abbrev pub NothingLeftOpen : Type 0
-NothingLeftOpen = (P : Program) (r : Result) (run : Run) → IsReached P (record { mode = Back r; cases = []; run = run }) → IsDone r → run.local.own ≡ nothing
+NothingLeftOpen = (P : Program) (r : Result) (run : Supply) → IsReached P (record { mode = Back r; cases = []; run = run }) → IsDone r → run.local.own ≡ nothing

@@ -19,7 +19,7 @@ use Rattle.plviews.specs.declared.lookup.Reach.{Reach}
 use Rattle.plviews.specs.declared.lookup.Reach.TheVariants.{Front, Base, Back}
 use Rattle.plviews.specs.declared.lookup.Step.{Step}
 use Rattle.plviews.specs.Views.{own_part, whole, Sight, WithoutOwn}
-use Rattle.plviews.specs.Lookups.{base_rest, likely, rest_at, Begins, Says}
+use Rattle.plviews.specs.Lookups.{base_rest, likely, rest_at, Begins, IsStepOf}
 use Rattle.plviews.proofs.Seen.{apart-backs, apart-fronts, known-filter, no-backs, rest-known, AllKnown}
 use Rattle.plviews.proofs.Heads.{filter-turn, heads-append, heads-dropped, heads-fewer, heads-kept, heads-rest, none-head, Heads}
 
@@ -110,5 +110,5 @@ module _ (s : Sight) (p : Indicator) (k : Key) (without : WithoutOwn s) where
       none-head (likely k (rest_at s p (Back c))) (sym (ap (λ own. next_like_of k cur (own_backs (stamped s.place 0 own) p)) without ∙ ap (next_like_of k cur) (no-backs s.place p) ∙ none-there k cur))
 
 -- what is told of a list is told of the same list
-pub says-same : (s : Sight) (p : Indicator) (k : Key) (us vs : List Living) (step : Step) → vs ≡ us → Says s p k us step → Says s p k vs step
-says-same s p k us vs step e h = subst (λ l. Says s p k l step) (sym e) h
+pub says-same : (s : Sight) (p : Indicator) (k : Key) (us vs : List Living) (step : Step) → vs ≡ us → IsStepOf s p k us step → IsStepOf s p k vs step
+says-same s p k us vs step e h = subst (λ l. IsStepOf s p k l step) (sym e) h

@@ -41,19 +41,19 @@ pub record Begins (us : List Stamped) (x : ClauseName) (xs ys : List Living) : T
   pub alive : clause_alive x us ≡ Some clause
 
 -- what a step says of the clauses that may still come
-abbrev pub Says : Sight → Indicator → Key → List Living → Step → Type 0
-Says s p k xs (Next x r) = Begins (whole s) x xs (likely k (rest_at s p r))
-Says s p k xs Nothing = xs ≡ []
-Says s p k xs (Asks c) = xs ≡ likely k (base_rest s p c)
+abbrev pub IsStepOf : Sight → Indicator → Key → List Living → Step → Type 0
+IsStepOf s p k xs (Next x r) = Begins (whole s) x xs (likely k (rest_at s p r))
+IsStepOf s p k xs Nothing = xs ≡ []
+IsStepOf s p k xs (Asks c) = xs ≡ likely k (base_rest s p c)
 
 -- what a step behind a reach says, in a view of some own updates, whatever batches they stand on
 abbrev pub SaysAt : List Update → View → Indicator → Key → Reach → Step → Type 0
-SaysAt own v p k r step = (us : List Stamped) → IsBase us v.place (take v.count own) → Says (sight us v own) p k (likely k (rest_at (sight us v own) p r)) step
+SaysAt own v p k r step = (us : List Stamped) → IsBase us v.place (take v.count own) → IsStepOf (sight us v own) p k (likely k (rest_at (sight us v own) p r)) step
 
 -- the same of a step that is made of what the journal gave behind a cursor
 abbrev pub SaysFound : List Update → View → Indicator → Key → Option ClauseName → Step → Type 0
 SaysFound own v p k found step =
-    (us : List Stamped) (c : Cursor) → IsBase us v.place (take v.count own) → found ≡ next_like_of k c (living us p) → Says (sight us v own) p k (likely k (rest_at (sight us v own) p (Base c))) step
+    (us : List Stamped) (c : Cursor) → IsBase us v.place (take v.count own) → found ≡ next_like_of k c (living us p) → IsStepOf (sight us v own) p k (likely k (rest_at (sight us v own) p (Base c))) step
 
 -- where a step leads: along the own clauses that were put on one side; from those in front to the start of the journal
 abbrev pub Leads : View → Reach → Step → Type 0
@@ -85,7 +85,7 @@ abbrev pub left : List Stamped → Lookup → Reach → List Living
 left us l r = likely l.key.now (rest_at (sight_of us l) l.pred.now r)
 
 abbrev pub Tells : List Stamped → Lookup → Reach → Step → Type 0
-Tells us l r step = Says (sight_of us l) l.pred.now l.key.now (left us l r) step
+Tells us l r step = IsStepOf (sight_of us l) l.pred.now l.key.now (left us l r) step
 
 -- fewer clauses of the journal that may come stand behind the cursor at which a step asks
 abbrev pub IsFurther : List Stamped → Lookup → Cursor → Step → Type 0

@@ -3,7 +3,7 @@ ghost use Rattle.std.specs.Prelude.{◌≡◌, ◌<◌, ℕ, List, take, IfSome,
 ghost use Rattle.std.specs.Option.{option_map};
 ghost use Rattle.plevent.specs.Alive.{Stamped, living, named};
 ghost use Rattle.plevent.specs.declared.update.Update.{Update};
-ghost use Rattle.plstore.specs.declared.record.Cursor.{Cursor as Place};
+ghost use Rattle.plstore.specs.declared.record.Cursor.{Cursor as StoreCursor};
 ghost use Rattle.plstore.specs.Like.{next_like_of};
 ghost use Rattle.pltx.specs.Walks.{cursor_at, own_backs, own_batch, own_fronts, AllErasedApart};
 ghost use Rattle.plviews.specs.declared.lookup.Lookup.{Lookup as Looked};
@@ -63,8 +63,8 @@ impl<'a> Lookup<'a> {
     /// The next clause where the journal, asked for one behind a cursor, gave this name. Where it is to be asked again, fewer
     /// clauses stand behind the new cursor.
     pub fn found(&self, name: Option<ClauseName>) -> Step
-        ensures tells { (us : List Stamped) (c : Place) → StandsOn us self.now → name ≡ next_like_of self.now.key.now c (living us self.now.pred.now) → Tells us self.now (Base c) result }
-        ensures further { (us : List Stamped) (c : Place) → StandsOn us self.now → name ≡ next_like_of self.now.key.now c (living us self.now.pred.now) → IsFurther us self.now c result }
+        ensures tells { (us : List Stamped) (c : StoreCursor) → StandsOn us self.now → name ≡ next_like_of self.now.key.now c (living us self.now.pred.now) → Tells us self.now (Base c) result }
+        ensures further { (us : List Stamped) (c : StoreCursor) → StandsOn us self.now → name ≡ next_like_of self.now.key.now c (living us self.now.pred.now) → IsFurther us self.now c result }
         ensures leads { LeadsFound self.now.view name result }
     {
         match name {
@@ -90,7 +90,7 @@ impl<'a> Lookup<'a> {
     /// The next own clause that was put behind all others.
     fn back(&self, cursor: OwnCursor) -> Step
         ensures tells { (us : List Stamped) → StandsOn us self.now → Tells us self.now (Back cursor) result }
-        ensures further { (us : List Stamped) (c : Place) → IsFurther us self.now c result }
+        ensures further { (us : List Stamped) (c : StoreCursor) → IsFurther us self.now c result }
         ensures leads { Leads self.now.view (Back cursor) result }
     {
         match self.next_back(cursor) {
@@ -154,7 +154,7 @@ impl View {
     /// What comes next where the journal gave the name of a clause: one that an own update erases is passed over.
     pub fn past(self, own: &Own, name: ClauseName) -> Step
         ensures says { (p : Procedure) (k : OfKey) → SaysFound own.now.updates self p k (Some name) result }
-        ensures further { (us : List Stamped) (l : Looked) (c : Place) → l.view ≡ self → StandsOn us l → Some name ≡ next_like_of l.key.now c (living us l.pred.now) → IsFurther us l c result }
+        ensures further { (us : List Stamped) (l : Looked) (c : StoreCursor) → l.view ≡ self → StandsOn us l → Some name ≡ next_like_of l.key.now c (living us l.pred.now) → IsFurther us l c result }
         ensures leads { LeadsFound self (Some name) result }
     {
         let cursor = Cursor::After(name);

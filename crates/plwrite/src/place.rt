@@ -7,67 +7,67 @@ use plops::operator::{Infix, Operator, Postfix, Prefix};
 /// A place for a term: the greatest priority there, whether it is an operand, and whether the operator behind it
 /// takes a left operand of its own priority.
 #[derive(Clone, Copy)]
-pub struct Place {
+pub struct TermPlace {
     most: u16,
     is_operand: bool,
     is_strict: bool,
 }
 
-impl Place {
-    pub fn whole() -> Place
+impl TermPlace {
+    pub fn whole() -> TermPlace
         ensures { result ≡ whole }
     {
-        Place {
+        TermPlace {
             most: 1200,
             is_operand: false,
             is_strict: false,
         }
     }
 
-    pub fn argument() -> Place
+    pub fn argument() -> TermPlace
         ensures { result ≡ argument }
     {
-        Place {
+        TermPlace {
             most: 999,
             is_operand: false,
             is_strict: false,
         }
     }
 
-    pub fn right_of_prefix(op: Prefix) -> Place
+    pub fn right_of_prefix(op: Prefix) -> TermPlace
         ensures { result ≡ right_of_prefix op }
     {
-        Place {
+        TermPlace {
             most: op.right,
             is_operand: true,
             is_strict: false,
         }
     }
 
-    pub fn left_of(op: Infix) -> Place
+    pub fn left_of(op: Infix) -> TermPlace
         ensures { result ≡ left_of op }
     {
-        Place {
+        TermPlace {
             most: op.left,
             is_operand: true,
             is_strict: op.left == op.priority,
         }
     }
 
-    pub fn right_of(op: Infix) -> Place
+    pub fn right_of(op: Infix) -> TermPlace
         ensures { result ≡ right_of op }
     {
-        Place {
+        TermPlace {
             most: op.right,
             is_operand: true,
             is_strict: false,
         }
     }
 
-    pub fn left_of_postfix(op: Postfix) -> Place
+    pub fn left_of_postfix(op: Postfix) -> TermPlace
         ensures { result ≡ left_of_postfix op }
     {
-        Place {
+        TermPlace {
             most: op.left,
             is_operand: true,
             is_strict: op.left == op.priority,
@@ -113,18 +113,18 @@ fn is_right_open(op: Operator) -> bool
 /// Where a term stands: in a place, or as what is left of a list.
 #[derive(Clone, Copy)]
 pub enum Position {
-    At(Place),
+    At(TermPlace),
     Tail,
 }
 
 impl Position {
     /// The place of a term that ends no list.
-    pub fn place(self) -> Place
+    pub fn place(self) -> TermPlace
         ensures { result ≡ place_of self }
     {
         match self {
             Position::At(place) => place,
-            Position::Tail => Place::argument(),
+            Position::Tail => TermPlace::argument(),
         }
     }
 }

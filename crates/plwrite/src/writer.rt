@@ -3,7 +3,7 @@ ghost use Rattle.std.specs.Prelude.{◌≡◌};
 ghost use Rattle.plwrite.specs.Nodes.{node_int};
 
 use crate::form::{Alone, Pair};
-use crate::place::{Place, Position};
+use crate::place::{TermPlace, Position};
 use crate::task::{Notation, Task};
 use crate::text::{Sign, Text};
 use plops::operator::{Infix, Operator, Postfix, Prefix};
@@ -96,7 +96,7 @@ impl<'a> Writer<'a> {
     {
         self.text.put_call(notation, position, name.as_str())?;
         self.push(Task::Others(count - 1))?;
-        self.push(Task::Term(Position::At(Place::argument())))
+        self.push(Task::Term(Position::At(TermPlace::argument())))
     }
 
     /// An infix operator, with its operands.
@@ -114,9 +114,9 @@ impl<'a> Writer<'a> {
         self.text.put_bar(position)?;
         self.text.put_opening(needed)?;
         self.push_closing(needed)?;
-        self.push(Task::Term(Position::At(Place::right_of(op))))?;
+        self.push(Task::Term(Position::At(TermPlace::right_of(op))))?;
         self.push(Task::OperatorName(name))?;
-        self.push(Task::Term(Position::At(Place::left_of(op))))
+        self.push(Task::Term(Position::At(TermPlace::left_of(op))))
     }
 
     /// A list's first element and what is left of it.
@@ -132,7 +132,7 @@ impl<'a> Writer<'a> {
             Position::Tail => self.text.put_sign(Sign::Comma)?,
         }
         self.push(Task::Term(Position::Tail))?;
-        self.push(Task::Term(Position::At(Place::argument())))
+        self.push(Task::Term(Position::At(TermPlace::argument())))
     }
 
     /// A compound of two arguments.
@@ -246,7 +246,7 @@ impl<'a> Writer<'a> {
         self.text.put_bar(position)?;
         self.text.put_sign(Sign::OpenCurly)?;
         self.push(Task::Mark(Sign::CloseCurly))?;
-        self.write_node(notation, node, Position::At(Place::whole()))
+        self.write_node(notation, node, Position::At(TermPlace::whole()))
     }
 
     /// A functor with one argument.
@@ -262,7 +262,7 @@ impl<'a> Writer<'a> {
     {
         self.text.put_call(notation, position, name.as_str())?;
         self.push(Task::Mark(Sign::Close))?;
-        self.write_node(notation, node, Position::At(Place::argument()))
+        self.write_node(notation, node, Position::At(TermPlace::argument()))
     }
 
     /// A prefix operator with its operand.
@@ -283,7 +283,7 @@ impl<'a> Writer<'a> {
         self.text
             .put_prefix(notation.alloc, notation.style, name.as_str())?;
         self.push_closing(needed)?;
-        self.write_node(notation, node, Position::At(Place::right_of_prefix(op)))
+        self.write_node(notation, node, Position::At(TermPlace::right_of_prefix(op)))
     }
 
     /// A postfix operator with its operand.
@@ -303,7 +303,7 @@ impl<'a> Writer<'a> {
         self.text.put_opening(needed)?;
         self.push_closing(needed)?;
         self.push(Task::OperatorName(name))?;
-        self.write_node(notation, node, Position::At(Place::left_of_postfix(op)))
+        self.write_node(notation, node, Position::At(TermPlace::left_of_postfix(op)))
     }
 
     /// A variable by its place in the alphabet.
@@ -391,7 +391,7 @@ impl<'a> Writer<'a> {
             Some(node) => {
                 self.text.put_sign(Sign::Comma)?;
                 self.push(Task::Others(count - 1))?;
-                self.write_node(notation, node, Position::At(Place::argument()))
+                self.write_node(notation, node, Position::At(TermPlace::argument()))
             }
         }
     }
@@ -424,7 +424,7 @@ impl<'a> Writer<'a> {
     {
         let mut terms = term.alone();
         let mut writer = Writer::new(notation.alloc);
-        writer.push(Task::Term(Position::At(Place::whole())))?;
+        writer.push(Task::Term(Position::At(TermPlace::whole())))?;
         while let Some(task) = writer.pop() {
             writer.step(notation, &mut terms, task)?;
         }

@@ -1,6 +1,6 @@
 -- How much a machine has before it without a step or an answer.
 use Rattle.std.specs.Prelude.{◌≡◌, ℕ, ◌+◌, ◌<◌, ◌⊎◌, List, [], ◌∷◌}
-use Rattle.plsearch.specs.Types.{Kind, Transact, Element, Marker, Place, Case, Choice, Mark, Handle}
+use Rattle.plsearch.specs.Types.{Kind, Transact, Element, Marker, Resolvent, Case, Choice, Mark, Handle}
 use Rattle.plsearch.specs.Engine.{left}
 use Rattle.plsearch.specs.Machines.Machine.{Mode, At, Back, Machine}
 
@@ -17,10 +17,10 @@ abbrev pub goals_weight : List Element → ℕ
 goals_weight [] = 0
 goals_weight (e ∷ es) = element_weight e + goals_weight es
 
-abbrev pub place_weight : Place → ℕ
+abbrev pub place_weight : Resolvent → ℕ
 place_weight p = goals_weight p.goals + 2
 
-abbrev pub places_weight : List Place → ℕ
+abbrev pub places_weight : List Resolvent → ℕ
 places_weight [] = 1
 places_weight (p ∷ ps) = place_weight p + 1 + places_weight ps
 

@@ -5,12 +5,12 @@ use mir.Val.{to_z, of_z, SFits}
 use Rattle.plsubst.specs.Subst.{bind}
 use Rattle.plcells.specs.Store.{value}
 use Rattle.plbind.specs.declared.unify.Verdict.TheVariants.{Same, Clash, Binds}
-use Rattle.plbind.specs.Unifying.{Says}
+use Rattle.plbind.specs.Unifying.{IsVerdict}
 use Rattle.plbind.proofs.Verdicts.{KindSays, kind-says, says-along, integers-same, integers-clash}
 use Rattle.plbind.proofs.unify.compare.Goals as goal
 
 pub returns-in-Binding : goal.returns-in-Binding
-unfolding Says
+unfolding IsVerdict
 returns-in-Binding c =
     let h = c.args.heap.now in
     let v = c.root-v.result in
@@ -19,7 +19,7 @@ returns-in-Binding c =
     says-along h (value h v) (value h w) (value h c.args.a) (value h c.args.b) (Binds c.in-Binding.x c.in-Binding.t) c.root-v.ensures.same c.root-w.ensures.same k
 
 pub returns-then-same_integers : goal.returns-then-same_integers
-unfolding Says
+unfolding IsVerdict
 returns-then-same_integers c =
     let h = c.args.heap.now in
     let v = c.root-v.result in
@@ -31,7 +31,7 @@ returns-then-same_integers c =
     sym (to_z-of_z w64 c.integer_of.result f) ∙ c.same_integers.ensures.0 c.if-same_integers.true ∙ to_z-of_z w64 c.integer_of-in-Integers.result g))
 
 pub returns-else-same_integers : goal.returns-else-same_integers
-unfolding Says
+unfolding IsVerdict
 returns-else-same_integers c =
     let h = c.args.heap.now in
     let v = c.root-v.result in
@@ -40,7 +40,7 @@ returns-else-same_integers c =
     (integers-clash (value h v) (value h w) c.integer_of.result c.integer_of-in-Integers.result c.integer_of.ensures c.integer_of-in-Integers.ensures (λ e. let t = c.same_integers.ensures.1 (ap (λ z. to_z w64 (of_z w64 z)) e) in grind (arith, t, c.if-same_integers.false)))
 
 pub returns-in-Same : goal.returns-in-Same
-unfolding Says
+unfolding IsVerdict
 returns-in-Same c =
     let h = c.args.heap.now in
     let v = c.root-v.result in
@@ -49,7 +49,7 @@ returns-in-Same c =
     λ τ. ap (bind τ) (sym c.root-v.ensures.same ∙ k ∙ c.root-w.ensures.same)
 
 pub returns-in-Clash : goal.returns-in-Clash
-unfolding Says
+unfolding IsVerdict
 returns-in-Clash c =
     let h = c.args.heap.now in
     let v = c.root-v.result in

@@ -2,9 +2,9 @@ use Rattle.std.proofs.Common.{◌≡◌, ◌<◌, [], ◌∷◌, length, sym, ap
 use Rattle.std.specs.Prelude.{IfSome}
 use Rattle.plterm.specs.Tree.{atom}
 use Rattle.plcells.specs.Store.{value}
-use Rattle.plgenerator.specs.declared.turn.Turn.TheVariants as turns
+use Rattle.plgenerator.specs.declared.turn.Remaining.TheVariants as turns
 use Rattle.plgenerator.specs.Fitting.{fitting}
-use Rattle.plgenerator.specs.Answers.{sought_terms, left, left_if, IsTurn}
+use Rattle.plgenerator.specs.Answers.{sought_terms, left, left_if, IsRemaining}
 use Rattle.plgenerator.proofs.Turning.{parts-left, parts-behind, turns-behind, parts-fewer}
 use Rattle.plgenerator.proofs.generator.next_part.Goals as goal
 
@@ -24,7 +24,7 @@ returns-clause-some c =
     let turn = c.part_turn-rest.ensures in
     record {
       equation = c.in_ok-equation.ensures.there h c.requires.before c.requires.length c.requires.after c.requires.text;
-      rest = subst (λ r. IfSome r (IsTurn h vs)) (sym turn) (turns-behind h a s.before s.length s.after s.text text is o c.part_after.ensures.part);
+      rest = subst (λ r. IfSome r (IsRemaining h vs)) (sym turn) (turns-behind h a s.before s.length s.after s.text text is o c.part_after.ensures.part);
       fewer = subst (λ r. IfSome r (λ rest. length (left h vs rest) < length (left h vs (turns.Part p)))) (sym turn)
           (parts-fewer h a s.before s.length s.after s.text text is p q o (c.in-Some-first_part.ensures.left us) (c.part_after.ensures.fewer us));
       is = λ n.

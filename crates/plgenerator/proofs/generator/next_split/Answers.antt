@@ -2,9 +2,9 @@ use Rattle.std.proofs.Common.{◌≡◌, ◌<◌, Some, [], ◌∷◌, length, s
 use Rattle.std.specs.Prelude.{IfSome}
 use Rattle.plcells.specs.Store.{value}
 use Rattle.plbuiltin.specs.Pieces.{text_of, as_text}
-use Rattle.plgenerator.specs.declared.turn.Turn.TheVariants as turns
+use Rattle.plgenerator.specs.declared.turn.Remaining.TheVariants as turns
 use Rattle.plgenerator.specs.Fitting.{fitting}
-use Rattle.plgenerator.specs.Answers.{left, left_if, IsTurn}
+use Rattle.plgenerator.specs.Answers.{left, left_if, IsRemaining}
 use Rattle.plgenerator.proofs.Turning.{text-atom, splits-left, splits-behind, splits-turn, splits-fewer}
 use Rattle.plgenerator.proofs.generator.next_split.Goals as goal
 
@@ -25,7 +25,7 @@ returns-clause-some c =
     let turn = c.split_turn-rest.ensures in
     record {
       equation = c.in_ok-equation.ensures.there;
-      rest = subst (λ r. IfSome r (IsTurn h vs)) (sym turn) (splits-turn h a b whole text is o found.rest);
+      rest = subst (λ r. IfSome r (IsRemaining h vs)) (sym turn) (splits-turn h a b whole text is o found.rest);
       fewer = subst (λ r. IfSome r (λ rest. length (left h vs rest) < length (left h vs (turns.Split split)))) (sym turn)
           (splits-fewer h a b whole text is split o (found.fewer (u ∷ w ∷ [])));
       is = λ n.

@@ -3,7 +3,7 @@ use Rattle.plcells.specs.declared.cell.Cell.TheVariants.{Free}
 use Rattle.std.proofs.lemmas.List.{get_or_default}
 use Rattle.plcells.proofs.Given.{value-in}
 use Rattle.plgenerator.specs.declared.turn.Groups.{Groups}
-use Rattle.plgenerator.specs.declared.turn.Turn.TheVariants as turns
+use Rattle.plgenerator.specs.declared.turn.Remaining.TheVariants as turns
 use Rattle.plgenerator.specs.Fitting.{fitting}
 use Rattle.plgenerator.specs.Answers.{left}
 use Rattle.plgenerator.proofs.Grouping.{first-values, next-left, next-groups}

@@ -6,7 +6,7 @@ use Rattle.plterm.specs.Tree.{compound, none, more}
 use Rattle.plclause.proofs.Names.{IsName-call}
 use Rattle.plcells.specs.Store.{term, value, AreValues}
 use Rattle.plcells.proofs.Taking.{Plants}
-use Rattle.plgoals.specs.Goals.{Says}
+use Rattle.plgoals.specs.Goals.{IsKind}
 use Rattle.plgoals.proofs.Walking.{Leads, left_terms, left-popped, left-opened, values-popped, values-pushed, values-opened, lighter-popped, lighter-opened, leads-none, leads-leaf, leads-construct, spells-value, spells-call, spells-end, plants-value, plants-call, plants-construct}
 use Rattle.plgoals.proofs.goal.goal_nodes.Goals as goal
 
@@ -14,7 +14,7 @@ pub kind_of-requires : goal.kind_of-requires
 kind_of-requires c = (values-popped c.args.heap.now c.loop-w.stack.items c.pop.new.self.items c.in-Some.w c.loop-w.invariant.stacked c.in-Some.ensures.items).1
 
 pub returns-in-Number-clause-none : goal.returns-in-Number-clause-none
-unfolding Says
+unfolding IsKind
 returns-in-Number-clause-none c =
     let h = c.args.heap.now in
     let l = c.loop-w in
@@ -27,7 +27,7 @@ pub loop-w-smaller-in-Variable : goal.loop-w-smaller-in-Variable
 loop-w-smaller-in-Variable c = lighter-popped c.args.heap.now c.loop-w.stack.items c.pop.new.self.items c.in-Some.w c.in-Some.ensures.items
 
 pub loop-w-preserved-in-Variable : goal.loop-w-preserved-in-Variable
-unfolding Says
+unfolding IsKind
 loop-w-preserved-in-Variable c =
     let h = c.args.heap.now in
     let l = c.loop-w in
@@ -57,7 +57,7 @@ pub loop-w-smaller-in-Goal : goal.loop-w-smaller-in-Goal
 loop-w-smaller-in-Goal c = lighter-popped c.args.heap.now c.loop-w.stack.items c.pop.new.self.items c.in-Some.w c.in-Some.ensures.items
 
 pub loop-w-preserved-in-Goal : goal.loop-w-preserved-in-Goal
-unfolding Says
+unfolding IsKind
 loop-w-preserved-in-Goal c =
     let h = c.args.heap.now in
     let l = c.loop-w in
@@ -83,21 +83,21 @@ loop-w-preserved-in-Goal c =
     }
 
 pub push_construct-requires : goal.push_construct-requires
-unfolding Says
+unfolding IsKind
 push_construct-requires c = c.in-Construct.ensures.1
 
 pub push_goals-requires : goal.push_goals-requires
-unfolding Says
+unfolding IsKind
 push_goals-requires c = c.in-Construct.ensures.1
 
 pub loop-w-smaller : goal.loop-w-smaller
-unfolding Says
+unfolding IsKind
 loop-w-smaller c =
     lighter-opened c.args.heap.now c.loop-w.stack.items c.pop.new.self.items c.push_goals.new.stack.items c.in-Some.w c.in-Construct.p c.in-Some.ensures.items c.in-Construct.ensures.0 c.in-Construct.ensures.1
     c.in_ok-push_goals-in-Construct.ensures
 
 pub loop-w-preserved : goal.loop-w-preserved
-unfolding Says
+unfolding IsKind
 loop-w-preserved c =
     let h = c.args.heap.now in
     let l = c.loop-w in

@@ -1,7 +1,7 @@
 use Rattle.std.proofs.Common.{◌∙◌, ◌∷◌, suc, ap, sym, subst, Some}
 use Rattle.plclause.specs.Conversion.{converted}
 use Rattle.plcells.specs.Store.{term}
-use Rattle.plgoals.specs.Goals.{Says}
+use Rattle.plgoals.specs.Goals.{IsKind}
 use Rattle.plgoals.proofs.Walking.{AllOwn, left_terms, left-popped, left-opened, values-popped, values-opened, lighter-popped, lighter-opened, own-opened}
 use Rattle.plgoals.proofs.goal.is_own_goal.Goals as goal
 
@@ -12,7 +12,7 @@ pub loop-w-smaller-in-Goal : goal.loop-w-smaller-in-Goal
 loop-w-smaller-in-Goal c = lighter-popped c.args.heap.now c.loop-w.stack.items c.pop.new.self.items c.in-Some.w c.in-Some.ensures.items
 
 pub loop-w-preserved-in-Goal : goal.loop-w-preserved-in-Goal
-unfolding Says
+unfolding IsKind
 loop-w-preserved-in-Goal c =
     let h = c.args.heap.now in
     let rest = c.pop.new.self.items in
@@ -23,17 +23,17 @@ loop-w-preserved-in-Goal c =
     }
 
 pub push_goals-requires : goal.push_goals-requires
-unfolding Says
+unfolding IsKind
 push_goals-requires c = c.in-Construct.ensures.1
 
 pub loop-w-smaller : goal.loop-w-smaller
-unfolding Says
+unfolding IsKind
 loop-w-smaller c =
     lighter-opened c.args.heap.now c.loop-w.stack.items c.pop.new.self.items c.push_goals.new.stack.items c.in-Some.w c.in-Construct.p c.in-Some.ensures.items c.in-Construct.ensures.0 c.in-Construct.ensures.1
     c.in_ok-push_goals-in-Construct.ensures
 
 pub loop-w-preserved : goal.loop-w-preserved
-unfolding Says
+unfolding IsKind
 loop-w-preserved c =
     let h = c.args.heap.now in
     let rest = c.pop.new.self.items in

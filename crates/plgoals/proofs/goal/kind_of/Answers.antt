@@ -3,25 +3,25 @@ use Rattle.std.specs.Prelude.{codes}
 use Rattle.plterm.specs.Tree.{compound, none, more}
 use Rattle.plclause.specs.Conversion.{converted}
 use Rattle.plcells.specs.Store.{IsEnd, value}
-use Rattle.plgoals.specs.Goals.{Says}
+use Rattle.plgoals.specs.Goals.{IsKind}
 use Rattle.plgoals.proofs.Shapes.{end-variable}
 use Rattle.plgoals.proofs.goal.kind_of.Goals as goal
 
 pub returns-then-is_construct : goal.returns-then-is_construct
-unfolding Says
+unfolding IsKind
 returns-then-is_construct c =
     let h = c.args.heap.now in
     (sym c.in-Str.ensures.same, c.is_construct.ensures.yes c.if-is_construct.true)
 
 pub returns-else-is_construct : goal.returns-else-is_construct
-unfolding Says
+unfolding IsKind
 returns-else-is_construct c =
     let h = c.args.heap.now in
     let same = c.in-Str.ensures.same in
     (c.in-Str.ensures.fits, same, ap converted (sym same) ∙ c.is_construct.ensures.no c.if-is_construct.false ∙ ap Some same)
 
 pub returns-in-Ref : goal.returns-in-Ref
-unfolding Says
+unfolding IsKind
 returns-in-Ref c =
     let h = c.args.heap.now in
     let j = c.in-Ref.field-0 in
@@ -30,7 +30,7 @@ returns-in-Ref c =
     (c.root-root.ensures.fits, ap converted (sym c.root-root.ensures.same ∙ here) ∙ ap (λ u. Some (compound (codes "call") (more u none))) (sym here))
 
 pub returns-in-Atom : goal.returns-in-Atom
-unfolding Says
+unfolding IsKind
 returns-in-Atom c =
     let h = c.args.heap.now in
     let here = ap (value h) c.in-Atom.is in
@@ -38,7 +38,7 @@ returns-in-Atom c =
     (c.root-root.ensures.fits, same, ap converted (sym same ∙ here) ∙ ap Some (sym here ∙ same))
 
 pub returns-in-Int : goal.returns-in-Int
-unfolding Says
+unfolding IsKind
 returns-in-Int c =
     let h = c.args.heap.now in
     let same = ap converted (sym c.root-root.ensures.same) in

@@ -7,7 +7,7 @@ use Rattle.plcells.specs.Store.{value}
 use Rattle.plcode.specs.Nodes.{IsNamed}
 use Rattle.plcode.specs.declared.node.Node.TheVariants as node
 use Rattle.plenv.specs.Rows.{tree_at}
-use Rattle.plhead.specs.Fitting.{Says}
+use Rattle.plhead.specs.Fitting.{IsVerdict}
 use Rattle.plhead.proofs.Trees.{compound-at, named-at, tree-at}
 use Rattle.plhead.proofs.Clashes.{compound-clash}
 use Rattle.plhead.proofs.Verdicts.{atom-says, int-says}
@@ -25,7 +25,7 @@ returns-in-Atom c =
     let nodes = c.args.nodes.now in
     let sound = c.requires.laid.sound in
     let named = subst (IsNamed h.names) c.in-Atom.is (named-at h.names nodes sound c.args.at c.requires.within) in
-    subst (Says h nodes (tree_at h.names nodes) (tree_at h.names nodes c.args.at) (value h c.args.v)) (sym c.verdict_of.ensures)
+    subst (IsVerdict h nodes (tree_at h.names nodes) (tree_at h.names nodes c.args.at) (value h c.args.v)) (sym c.verdict_of.ensures)
     (atom-says h c.requires.heap nodes (tree_at h.names nodes) c.args.v c.requires.value c.requires.solid c.in-Atom.a (tree_at h.names nodes c.args.at)
     (tree-at h.names nodes sound c.args.at (node.Atom c.in-Atom.a) c.requires.within c.in-Atom.is) named c.is_atom.result c.is_atom.ensures)
 
@@ -36,7 +36,7 @@ returns-in-Int c =
     let sound = c.requires.laid.sound in
     let fits : SFits w64 c.in-Int.i = search rules in
     let test = subst (λ i. IsTrue c.is_number.result ↔ (value h c.args.v ≡ int i)) (to_z-of_z w64 c.in-Int.i fits) c.is_number.ensures in
-    subst (Says h nodes (tree_at h.names nodes) (tree_at h.names nodes c.args.at) (value h c.args.v)) (sym c.verdict_of-in-Int.ensures)
+    subst (IsVerdict h nodes (tree_at h.names nodes) (tree_at h.names nodes c.args.at) (value h c.args.v)) (sym c.verdict_of-in-Int.ensures)
     (int-says h c.requires.heap nodes (tree_at h.names nodes) c.args.v c.requires.value c.requires.solid c.in-Int.i (tree_at h.names nodes c.args.at)
     (tree-at h.names nodes sound c.args.at (node.Int c.in-Int.i) c.requires.within c.in-Int.is) c.is_number.result test)
 
@@ -46,10 +46,10 @@ returns-in-Str c =
     let nodes = c.args.nodes.now in
     let at = compound-at h.names nodes c.requires.laid.sound c.requires.packed c.args.at c.in-Sub.field-0 c.in-Sub.root c.requires.within c.in-Sub.is in
     let says = c.compare_blocks.ensures (tree_at h.names nodes c.args.at) at in
-    subst (λ (t : Tree). Says h nodes (tree_at h.names nodes) (tree_at h.names nodes c.args.at) t c.compare_blocks.result) (ap (value h) (sym c.in-Str.is)) says
+    subst (λ (t : Tree). IsVerdict h nodes (tree_at h.names nodes) (tree_at h.names nodes c.args.at) t c.compare_blocks.result) (ap (value h) (sym c.in-Str.is)) says
 
 pub returns-in_default : goal.returns-in_default
-unfolding Says
+unfolding IsVerdict
 returns-in_default c =
     let h = c.args.heap.now in
     let nodes = c.args.nodes.now in

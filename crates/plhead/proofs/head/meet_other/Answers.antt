@@ -6,7 +6,7 @@ use Rattle.plcells.specs.Store.{Store, value}
 use Rattle.plenv.specs.Env.{over}
 use Rattle.plenv.specs.Changes.{Unifies}
 use Rattle.plenv.specs.Rows.{tree_at}
-use Rattle.plhead.specs.Fitting.{Comes, Says}
+use Rattle.plhead.specs.Fitting.{Comes, IsVerdict}
 use Rattle.plhead.proofs.Slots.{keeps-refl}
 use Rattle.plhead.proofs.Verdicts.{comes-said, says-comes}
 use Rattle.plhead.proofs.head.meet_other.Goals as goal
@@ -33,9 +33,9 @@ returns c =
     let nodes = c.args.nodes.now in
     let w = tree_at e.heap.names nodes in
     let same = subst (λ (h : Store). value h c.root-root.result ≡ value h c.args.v) c.heap.ensures.is c.root-root.ensures.same in
-    let says = subst (λ (h : Store). Says h nodes (tree_at h.names nodes) (tree_at h.names nodes c.args.at) (value h c.root-root.result) c.compare.result) c.heap-2.ensures.is c.compare.ensures in
+    let says = subst (λ (h : Store). IsVerdict h nodes (tree_at h.names nodes) (tree_at h.names nodes c.args.at) (value h c.root-root.result) c.compare.result) c.heap-2.ensures.is c.compare.ensures in
     record {
       comes = says-comes e nodes w (over e c.args.base) (w c.args.at) (value e.heap c.args.v) c.compare.result
-          (subst (λ (t : Tree). Says e.heap nodes w (w c.args.at) t c.compare.result) same says);
+          (subst (λ (t : Tree). IsVerdict e.heap nodes w (w c.args.at) t c.compare.result) same says);
       keeps = keeps-refl e;
     }

@@ -3,16 +3,16 @@ use Rattle.std.proofs.lemmas.Bool.{eqb-true}
 use Rattle.std.specs.declared.cmp.Ordering.TheVariants.{Equal}
 use Rattle.plterm.specs.Order.{functor_order}
 use Rattle.platoms.specs.Names.{functor_name, functor_arity}
-use Rattle.plorder.specs.Runs.{Says}
+use Rattle.plorder.specs.Runs.{IsComparison}
 use Rattle.plorder.proofs.Judging.{term-same, blocks-decided, blocks-run}
 use Rattle.plorder.proofs.compare.judge_blocks.Goals as goal
 
 pub returns-then-eq : goal.returns-then-eq
-unfolding Says
+unfolding IsComparison
 returns-then-eq c = term-same c.args.heap.now c.args.a.place c.args.b.place (eqb-true c.args.a.place c.args.b.place (sym c.eq.ensures ∙ c.if-eq.true))
 
 pub returns-in-Equal : goal.returns-in-Equal
-unfolding Says
+unfolding IsComparison
 returns-in-Equal c =
     let h = c.args.heap.now in
     let a = c.args.a in
@@ -24,7 +24,7 @@ returns-in-Equal c =
     blocks-run h a b c.requires.left c.requires.right _ c.requires.names (omega arith) (omega arith) refl same
 
 pub returns-in_default : goal.returns-in_default
-unfolding Says
+unfolding IsComparison
 returns-in_default c =
     let h = c.args.heap.now in
     let a = c.args.a in

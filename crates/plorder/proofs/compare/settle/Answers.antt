@@ -1,6 +1,6 @@
 use Rattle.std.proofs.Common.{◌∙◌, sym, arith}
 use Rattle.plcells.specs.Store.{term, value}
-use Rattle.plorder.specs.Runs.{Says}
+use Rattle.plorder.specs.Runs.{IsComparison}
 use Rattle.plorder.specs.declared.compare.Verdict.TheVariants.{Decided, Arguments}
 use Rattle.plorder.proofs.Settling.{says-along, differs, equal, taken, left-taken, on-equal, lighter-equal, on-decided, runs-more, on-more, lighter-more}
 use Rattle.plorder.proofs.compare.settle.Goals as goal
@@ -36,7 +36,7 @@ argument-requires-in-Some-clause-plain c =
     is.right_plain c.in-Some.next.right (omega arith) (omega (arith, is.some))
 
 pub returns-then-is_ne : goal.returns-then-is_ne
-unfolding Says
+unfolding IsComparison
 returns-then-is_ne c =
     let h = c.args.heap.now in
     let r = c.in-Some.next in
@@ -54,7 +54,7 @@ runs-smaller-else-is_ne c =
     lighter-equal h c.args.work.now.items c.runs.work.items c.push_rest.new.work.items r.left r.right left c.runs.invariant.same
 
 pub runs-preserved-else-is_ne : goal.runs-preserved-else-is_ne
-unfolding Says
+unfolding IsComparison
 runs-preserved-else-is_ne c =
     let h = c.args.heap.now in
     let r = c.in-Some.next in
@@ -67,7 +67,7 @@ runs-preserved-else-is_ne c =
     }
 
 pub runs-smaller : goal.runs-smaller
-unfolding Says
+unfolding IsComparison
 runs-smaller c =
     let h = c.args.heap.now in
     let r = c.in-Some.next in
@@ -77,7 +77,7 @@ runs-smaller c =
     lighter-more h c.args.work.now.items c.runs.work.items c.push_rest.new.work.items r.left r.right left c.runs.invariant.same c.in-Arguments.inner says c.push.new.self.items c.in_ok-push-in-Arguments.ensures.items
 
 pub runs-preserved : goal.runs-preserved
-unfolding Says
+unfolding IsComparison
 runs-preserved c =
     let h = c.args.heap.now in
     let r = c.in-Some.next in

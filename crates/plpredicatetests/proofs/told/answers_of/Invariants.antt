@@ -1,6 +1,6 @@
 use Rattle.std.proofs.Common.{IfSome}
-use Rattle.plgenerator.specs.Answers.{IsTurn}
+use Rattle.plgenerator.specs.Answers.{IsRemaining}
 use Rattle.plpredicatetests.proofs.told.answers_of.Given as goal
 
 abbrev pub invariant-answers : goal.invariant-answers
-invariant-answers l = IfSome l.rest (IsTurn l.heap l.values)
+invariant-answers l = IfSome l.rest (IsRemaining l.heap l.values)

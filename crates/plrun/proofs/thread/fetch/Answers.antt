@@ -22,26 +22,25 @@ fetched-requires-clause-fits c =
 
 pub fetched-requires-clause-within : goal.fetched-requires-clause-within
 fetched-requires-clause-within c =
-    let P = c.args.program.now in
+    let P = c.requires.runs.0 in
     let s = c.args.running.now.solver in
-    used-within P.first (search_of P s.limit) s.limit (λ v. rest_of P v s) s.used c.args.world.now.journal c.args.running.now.thread s.places.items c.requires.runs.started
+    used-within P.first (search_of P s.limit) s.limit (λ v. rest_of P v s) s.used c.args.world.now.journal c.args.running.now.thread s.places.items c.requires.runs.1.started
 
 pub returns-clause-runs : goal.returns-clause-runs
-returns-clause-runs c =
-    let P = c.args.program.now in
+returns-clause-runs c P runs =
     let old = c.args.running.now.solver in
     let new = c.fetched.new.self in
     let h = c.args.world.now.journal in
     let q = c.args.query.now in
     let g = c.requires.fetches.0 in
     let at : c.view-view.result ≡ g = c.view-view.ensures.is g q c.requires.fetches.1 in
-    let within : g ≤ length h = omega (arith, at, c.view-view.ensures.seen, c.requires.runs.latest) in
+    let within : g ≤ length h = omega (arith, at, c.view-view.ensures.seen, runs.latest) in
     record {
-      of = c.fetched.ensures.of;
-      latest = subst (λ n. n ≤ length h) (sym c.fetched.ensures.latest) c.requires.runs.latest;
-      started = started-gone P old.limit new.limit (λ v. rest_of P v old) (λ v. rest_of P v new) old.used new.used h c.args.running.now.thread old.places.items new.places.items c.requires.runs.started
+      of = c.fetched.ensures.of P runs.of;
+      latest = subst (λ n. n ≤ length h) (sym c.fetched.ensures.latest) runs.latest;
+      started = started-gone P old.limit new.limit (λ v. rest_of P v old) (λ v. rest_of P v new) old.used new.used h c.args.running.now.thread old.places.items new.places.items runs.started
           (λ v are.
-          c.in_ok-fetched.ensures.ok v are.ordered g q c.requires.fetches.1
+          c.in_ok-fetched.ensures.ok P runs.of v are.ordered g q c.requires.fetches.1
           (c.in_ok-found.ensures ∙ ap (λ us. found us q) (ap (λ k. before k (reading h).updates) at ∙ sym (are.as_far g within))))
           c.fetched.ensures.places c.fetched.ensures.limit;
     }

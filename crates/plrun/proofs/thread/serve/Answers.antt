@@ -20,11 +20,10 @@ pub reply-requires-clause-fits : goal.reply-requires-clause-fits
 reply-requires-clause-fits c =
     let s = c.args.running.now.solver in
     let q = c.args.request in
-    (q, c.requires.waits, reply-fits c.args.world.now.journal c.args.running.now.thread q c.in_ok-reply.reply (may_wait s q c.requires.waits) c.requires.runs.runs.going.free (c.in_ok-reply.ensures.reply ∙ replies-in c.args.world.now c.args.running.now.thread q c.requires.serves))
+    (q, c.requires.waits, reply-fits c.args.world.now.journal c.args.running.now.thread q c.in_ok-reply.reply (may_wait s q c.requires.waits) c.requires.runs.1.runs.going.free (c.in_ok-reply.ensures.reply ∙ replies-in c.args.world.now c.args.running.now.thread q c.requires.serves))
 
 pub returns-clause-runs : goal.returns-clause-runs
-returns-clause-runs c =
-    let P = c.args.program.now in
+returns-clause-runs c P runs at =
     let old = c.args.running.now.solver in
     let new = c.reply.new.self in
     let q = c.args.request in
@@ -34,10 +33,10 @@ returns-clause-runs c =
     let grows = grows-in c.args.world.now c.step.new.self 1 t q c.requires.serves c.in_ok-reply.ensures.entry in
     let started = started-same P old.limit new.limit (λ v. rest_of P v new) new.used later t new.places.items c.reply.ensures.limit
     (served-by P.first (search_of P old.limit) old.limit (λ v. rest_of P v old) (λ v. rest_of P v new) old.used new.used old.machine.out.items h later t old.places.items new.places.items c.front-place.result q c.in_ok-reply.reply
-    (halts-when-done P old.limit) (may_wait old q c.requires.waits) c.requires.runs.runs c.requires.at c.front-place.ensures
-    (c.in_ok-reply.ensures.reply ∙ replies-in c.args.world.now t q c.requires.serves) grows (λ v are. c.in_ok-reply-2.ensures.ok v) c.in_ok-reply-2.ensures.places) in
+    (halts-when-done P old.limit) (may_wait old q c.requires.waits) runs.runs at c.front-place.ensures
+    (c.in_ok-reply.ensures.reply ∙ replies-in c.args.world.now t q c.requires.serves) grows (λ v are. c.in_ok-reply-2.ensures.ok P runs.of v) c.in_ok-reply-2.ensures.places) in
     record {
-      of = c.reply.ensures.of;
-      latest = longer h later _ (latest_view new) grows (subst (λ n. n ≤ length h) (sym c.reply.ensures.latest) c.requires.runs.latest);
+      of = c.reply.ensures.of P runs.of;
+      latest = longer h later _ (latest_view new) grows (subst (λ n. n ≤ length h) (sym c.reply.ensures.latest) runs.latest);
       started = started;
     }

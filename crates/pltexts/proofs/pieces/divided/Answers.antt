@@ -3,7 +3,7 @@ use Rattle.plcells.specs.Store.{value}
 use Rattle.plbuiltin.specs.Solution.{Solution, Gives}
 use Rattle.plbuiltin.specs.Pieces.{as_text, text_of, divided}
 use Rattle.plgenerator.specs.Answers.{splits_in}
-use Rattle.plgenerator.specs.declared.turn.Turn.TheVariants as turns
+use Rattle.plgenerator.specs.declared.turn.Remaining.TheVariants as turns
 use Rattle.planswers.specs.Answers.{AreSeveral, IsMany}
 use Rattle.pltexts.proofs.Dividing.{one-split, several-splits}
 use Rattle.pltexts.proofs.pieces.divided.Goals as goal

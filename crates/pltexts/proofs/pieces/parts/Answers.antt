@@ -6,7 +6,7 @@ use Rattle.plcells.specs.Store.{value}
 use Rattle.plbuiltin.specs.Solution.{Solution, Gives}
 use Rattle.plbuiltin.specs.Pieces.{text_of, parts}
 use Rattle.plgenerator.specs.Answers.{parts_in, sought_terms}
-use Rattle.plgenerator.specs.declared.turn.Turn.TheVariants as turns
+use Rattle.plgenerator.specs.declared.turn.Remaining.TheVariants as turns
 use Rattle.planswers.specs.Answers.{AreSeveral, IsMany}
 use Rattle.pltexts.proofs.Dividing.{one-part, several-parts}
 use Rattle.pltexts.proofs.pieces.parts.Goals as goal

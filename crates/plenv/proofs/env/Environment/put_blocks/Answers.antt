@@ -2,7 +2,7 @@ use Rattle.std.proofs.Common.{◌≡◌, ◌∙◌, ◌+◌, ◌-◌, ◌<◌, s
 use Rattle.plsubst.specs.Subst.{bind}
 use Rattle.plcells.specs.declared.cell.Cell.TheVariants.{Str}
 use Rattle.plcode.specs.Packed.{Packed}
-use Rattle.plenv.specs.declared.block.Run.{Run}
+use Rattle.plenv.specs.declared.block.BlocksAt.{BlocksAt}
 use Rattle.plenv.specs.Env.{Env, over}
 use Rattle.plenv.specs.Changes.{Puts}
 use Rattle.plenv.specs.Blocks.{block_at, AreBuilt, Stand, PutsBlock}
@@ -13,7 +13,7 @@ use Rattle.plenv.proofs.env.Environment.put_blocks.Goals as goal
 pub loop-arity-init : goal.loop-arity-init
 loop-arity-init c =
     let now : Env = c.args.self.now in
-    let r : Run = record { from = c.args.from; start = c.next-start.result; base = c.args.base } in
+    let r : BlocksAt = record { from = c.args.from; start = c.next-start.result; base = c.args.base } in
     let all : length now.heap.cells ≡ c.next-start.result = ap (λ (e : Env). length e.heap.cells) (sym c.self.view_is) ∙ sym c.next-start.ensures.is in
     record {
       packed = c.requires.packed;
@@ -56,7 +56,7 @@ returns-then-place-root-clause-some c = λ v some.
     let new : Env = c.put_block.new.self in
     let nodes = c.args.nodes.now in
     let root = c.args.root in
-    let r : Run = record { from = c.args.from; start = c.next-start.result; base = c.args.base } in
+    let r : BlocksAt = record { from = c.args.from; start = c.next-start.result; base = c.args.base } in
     let all : length now.heap.cells ≡ c.next-start.result = ap (λ (e : Env). length e.heap.cells) (sym c.self.view_is) ∙ sym c.next-start.ensures.is in
     let at : l.place ≡ root = c.if-place-root.true in
     let place = c.after.ensures in
@@ -89,7 +89,7 @@ loop-arity-preserved c =
     let mid : Env = l.self in
     let new : Env = c.put_block.new.self in
     let nodes = c.args.nodes.now in
-    let r : Run = record { from = c.args.from; start = c.next-start.result; base = c.args.base } in
+    let r : BlocksAt = record { from = c.args.from; start = c.next-start.result; base = c.args.base } in
     let made = c.in_ok-arity.ensures.some c.in-Some.arity c.in-Some.is in
     let kept = c.in_ok-arity.ensures.stays in
     let next : suc (l.place + c.in-Some.arity) ≡ l.place + (1 + c.from.result) = omega (arith, c.from.ensures) in

@@ -18,13 +18,13 @@ use Rattle.plmachine.proofs.Moves.{grown-depth, grown-stays, on_err, tied-as}
 use Rattle.plmachine.proofs.machine.Machine.begin_at.Goals as goal
 
 pub returns-in_err-entry-clause-err : goal.returns-in_err-entry-clause-err
-returns-in_err-entry-clause-err c = on_err _ (grown-stays c.args.program.now c.args.self.now c.entry.new.self c.entry.ensures.grown c.entry.ensures.frame)
+returns-in_err-entry-clause-err c P = on_err _ (grown-stays P c.args.self.now c.entry.new.self c.entry.ensures.grown c.entry.ensures.frame)
 
 pub returns-in_err-begin-clause-err : goal.returns-in_err-begin-clause-err
-returns-in_err-begin-clause-err c =
+returns-in_err-begin-clause-err c P =
     let s = c.args.self.now in
     let t = c.entry.new.self in
-    on_err _ (subst (λ (x : Layered). Stays c.args.program.now s (record t { layer = x })) (sym c.in_err-begin.ensures.refused) (grown-stays c.args.program.now s t c.entry.ensures.grown c.entry.ensures.frame))
+    on_err _ (subst (λ (x : Layered). Stays P s (record t { layer = x })) (sym c.in_err-begin.ensures.refused) (grown-stays P s t c.entry.ensures.grown c.entry.ensures.frame))
 
 pub start-requires : goal.start-requires
 start-requires c =
@@ -46,11 +46,10 @@ cancel-requires c =
     (_, ap (λ (x : Layered). x.own.levels) begins ∙ ap (λ (o : Own). o.levels) (begun-outer c.args.kind c.args.place t.layer.own none))
 
 pub returns-in-Ok-clause-ok : goal.returns-in-Ok-clause-ok
-returns-in-Ok-clause-ok c =
+returns-in-Ok-clause-ok c P =
     let s = c.args.self.now in
     let t = c.entry.new.self in
     let st = c.open_transaction.new.self in
-    let P = c.args.program.now in
     let g = c.entry.ensures.grown in
     let d = depth_of s in
     let l = c.visited-rest.result in
@@ -73,10 +72,10 @@ returns-in-Ok-clause-ok c =
     (begins-outside P t l st c.start.new.self e r p (suc (suc d)) (Marker (Transact d) (suc d) ∷ es) c.in_ok-entry.ensures.ok fits c.args.kind tied none c.args.place (c.place-before.ensures.closed none) c.in-Ok.ensures.ok is)
 
 pub returns-in-Err-clause-err : goal.returns-in-Err-clause-err
-returns-in-Err-clause-err c =
+returns-in-Err-clause-err c P =
     let s = c.args.self.now in
     let t = c.entry.new.self in
     let none : any_open t.layer.own ≡ false = ap (λ (x : Reached). any_open x.layer.own) c.entry.ensures.frame ∙ c.requires.closed in
     let back : c.cancel.new.self ≡ t.layer = c.cancel.ensures ∙ ap₂ (λ o p. record { own = o; place = p }) (sym (c.place-before.ensures.closed none)) c.place-before.ensures.is in
-    subst (λ (x : Layered). Stays c.args.program.now s (record t { stack = c.open_transaction.new.self; layer = x })) (sym back)
-    (subst (λ st. Stays c.args.program.now s (record t { stack = st })) (sym c.in-Err.ensures.err) (grown-stays c.args.program.now s t c.entry.ensures.grown c.entry.ensures.frame))
+    subst (λ (x : Layered). Stays P s (record t { stack = c.open_transaction.new.self; layer = x })) (sym back)
+    (subst (λ st. Stays P s (record t { stack = st })) (sym c.in-Err.ensures.err) (grown-stays P s t c.entry.ensures.grown c.entry.ensures.frame))

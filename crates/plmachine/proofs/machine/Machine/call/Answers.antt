@@ -9,15 +9,13 @@ use Rattle.plmachine.proofs.Selecting.{user-some}
 use Rattle.plmachine.proofs.machine.Machine.call.Goals as goal
 
 pub returns-in-Static-clause-ok : goal.returns-in-Static-clause-ok
-returns-in-Static-clause-ok c p t stands is =
+returns-in-Static-clause-ok c P b p t stands is =
     let s = c.args.self.now in
-    let P = c.args.program.now in
     let i = subst (λ q. IsCallOf P s p q t) c.in-Static.is is in
-    on_ok_map c.resolve.result (moved-views P s c.resolve.new.self _ _ (λ v. user-some (below_in v s) (clauses_for P p) (depth_of s) t (goals_of s.stack c.args.rest) s.stack.env.count (local_of s) i.static.some)) (c.resolve.ensures.ok p t i)
+    on_ok_map c.resolve.result (moved-views P s c.resolve.new.self _ _ (λ v. user-some (below_in v s) (clauses_for P p) (depth_of s) t (goals_of s.stack c.args.rest) s.stack.env.count (local_of s) i.static.some)) ((c.resolve.ensures.ok P b) p t i)
 
 pub returns-in-Unknown-clause-ok : goal.returns-in-Unknown-clause-ok
-returns-in-Unknown-clause-ok c p t stands is =
+returns-in-Unknown-clause-ok c P b p t stands is =
     let s = c.args.self.now in
-    let P = c.args.program.now in
     let none = subst (λ q. IsCallOf P s p q t) c.in-Unknown.is is in
-    on_ok_map c.look.result (moved-by-as P s c.look.new.self _ _ (λ v. ap (λ cs. user (below_in v s) cs (depth_of s) t (goals_of s.stack c.args.rest) s.stack.env.count (local_of s)) (sym none))) (c.look.ensures.ok t stands)
+    on_ok_map c.look.result (moved-by-as P s c.look.new.self _ _ (λ v. ap (λ cs. user (below_in v s) cs (depth_of s) t (goals_of s.stack c.args.rest) s.stack.env.count (local_of s)) (sym none))) ((c.look.ensures.ok P) t stands)

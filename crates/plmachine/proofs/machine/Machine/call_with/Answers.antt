@@ -16,10 +16,10 @@ run-requires-clause-ready c =
     (c.in_ok-ready.ensures.ok x.0 x.1 x.2).there
 
 pub returns-in_err-ready-clause-err : goal.returns-in_err-ready-clause-err
-returns-in_err-ready-clause-err c = on_err _ (grown-stays c.args.program.now c.args.self.now c.ready_with.new.self c.ready_with.ensures.grown c.ready_with.ensures.frame)
+returns-in_err-ready-clause-err c P = on_err _ (grown-stays P c.args.self.now c.ready_with.new.self c.ready_with.ensures.grown c.ready_with.ensures.frame)
 
 pub returns-clause-ok : goal.returns-clause-ok
-returns-clause-ok c v vs is =
+returns-clause-ok c P v vs is =
     let s = c.args.self.now in
     let t = c.ready_with.new.self in
     let g = c.ready_with.ensures.grown in
@@ -27,13 +27,13 @@ returns-clause-ok c v vs is =
     let ready = c.in_ok-ready.ensures.ok v vs is in
     let further : c.len.result - 1 ≡ length vs = omega (arith, c.len.ensures, ap length is) in
     let list = g.extends.lists c.args.rest c.requires.rest in
-    on_ok_map c.run.result (moved-grown c.args.program.now s t c.run.new.self _ _ g c.ready_with.ensures.frame
-    (run-same _ (call_with (length vs)) (ap call_with further) _ _ _ _ _ _ _ _ _ _ _ _ (sym ready.is) refl depth list.1 g.count (ap (λ x. local_of x) c.ready_with.ensures.frame))) c.run.ensures.ok
+    on_ok_map c.run.result (moved-grown P s t c.run.new.self _ _ g c.ready_with.ensures.frame
+    (run-same _ (call_with (length vs)) (ap call_with further) _ _ _ _ _ _ _ _ _ _ _ _ (sym ready.is) refl depth list.1 g.count (ap (λ x. local_of x) c.ready_with.ensures.frame))) (c.run.ensures.ok P)
 
 pub returns-clause-err : goal.returns-clause-err
-returns-clause-err c =
+returns-clause-err c P =
     let s = c.args.self.now in
-    on_err_map c.run.result (stays-trans c.args.program.now s c.ready_with.new.self c.run.new.self (grown-stays c.args.program.now s c.ready_with.new.self c.ready_with.ensures.grown c.ready_with.ensures.frame)) c.run.ensures.err
+    on_err_map c.run.result (stays-trans P s c.ready_with.new.self c.run.new.self (grown-stays P s c.ready_with.new.self c.ready_with.ensures.grown c.ready_with.ensures.frame)) (c.run.ensures.err P)
 
 pub run-requires-clause-how : goal.run-requires-clause-how
 run-requires-clause-how c =

@@ -13,7 +13,7 @@ use Rattle.plmachine.proofs.Offers.{offer-fails, offer-succeeds}
 use Rattle.plmachine.proofs.machine.Machine.compare.Goals as goal
 
 pub returns-then-compares-clause-ok : goal.returns-then-compares-clause-ok
-returns-then-compares-clause-ok c = λ t k.
+returns-then-compares-clause-ok c = λ P b t k.
     let s = c.args.self.now in
     let n = s.stack.env.count in
     let p = indicator t in
@@ -24,11 +24,11 @@ returns-then-compares-clause-ok c = λ t k.
     let fits_right : FitsSigned w64 c.in-Ok-2.y = search rules in
     let holds : true ≡ compares_of c.args.c c.in-Ok.x c.in-Ok-2.y = sym c.if-compares.true ∙ rw (to_z-of_z w64 c.in-Ok.x fits_left, to_z-of_z w64 c.in-Ok-2.y fits_right) at c.compares.ensures in
     let is = ap (λ b. decides b s.settings) holds ∙ ap₂ (λ x y. compared_of c.args.c x y s.settings) left right in
-    moved-as c.args.program.now s c.go_on.new.self _ _ (offer-succeeds s.settings p es n (local_of s) refl ∙ ap (λ x. offer x p es n (local_of s)) is)
-    (went c.args.program.now s c.go_on.new.self s.stack c.args.rest es (lengthened-grown s.stack s.stack (lengthened-same s.stack)) (holds-list s.stack c.args.rest c.requires.rest) c.go_on.ensures.is)
+    moved-as P s c.go_on.new.self _ _ (offer-succeeds s.settings p es n (local_of s) refl ∙ ap (λ x. offer x p es n (local_of s)) is)
+    (went P s c.go_on.new.self s.stack c.args.rest es (lengthened-grown s.stack s.stack (lengthened-same s.stack)) (holds-list s.stack c.args.rest c.requires.rest) c.go_on.ensures.is)
 
 pub returns-else-compares-clause-ok : goal.returns-else-compares-clause-ok
-returns-else-compares-clause-ok c = λ t k.
+returns-else-compares-clause-ok c = λ P b t k.
     let s = c.args.self.now in
     let n = s.stack.env.count in
     let p = indicator t in
@@ -39,4 +39,4 @@ returns-else-compares-clause-ok c = λ t k.
     let fits_right : FitsSigned w64 c.in-Ok-2.y = search rules in
     let holds : false ≡ compares_of c.args.c c.in-Ok.x c.in-Ok-2.y = sym c.if-compares.false ∙ rw (to_z-of_z w64 c.in-Ok.x fits_left, to_z-of_z w64 c.in-Ok-2.y fits_right) at c.compares.ensures in
     let is = ap (λ b. decides b s.settings) holds ∙ ap₂ (λ x y. compared_of c.args.c x y s.settings) left right in
-    moved-as c.args.program.now s c.give.new.self _ _ (offer-fails s.settings p es n (local_of s) refl ∙ ap (λ x. offer x p es n (local_of s)) is) (gave c.args.program.now s c.give.new.self outcomes.Fail tt c.give.ensures)
+    moved-as P s c.give.new.self _ _ (offer-fails s.settings p es n (local_of s) refl ∙ ap (λ x. offer x p es n (local_of s)) is) (gave P s c.give.new.self outcomes.Fail tt c.give.ensures)

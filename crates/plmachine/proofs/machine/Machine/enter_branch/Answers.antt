@@ -6,7 +6,7 @@ use Rattle.std.proofs.Common.{◌∷◌, []}
 use Rattle.plmachine.proofs.machine.Machine.enter_branch.Goals as goal
 
 pub returns-clause-ok : goal.returns-clause-ok
-returns-clause-ok c = enters c.args.program.now c.args.self.now c.go_on.new.self c.open_branch.new.self _ c.args.list c.requires.list c.in_ok-open_branch.ensures.ok c.go_on.ensures.is
+returns-clause-ok c P = enters P c.args.self.now c.go_on.new.self c.open_branch.new.self _ c.args.list c.requires.list c.in_ok-open_branch.ensures.ok c.go_on.ensures.is
 
 pub go_on-requires-clause-fits : goal.go_on-requires-clause-fits
 go_on-requires-clause-fits c =

@@ -15,17 +15,17 @@ enter-requires-clause-around c =
     (around-grown s.stack c.link.new.self c.args.around (lengthened-grown s.stack c.link.new.self (adds-lengthened s.stack c.link.new.self _ _ c.in_ok-list.ensures.ok)) c.requires.around).1
 
 pub returns-clause-ok : goal.returns-clause-ok
-returns-clause-ok c =
+returns-clause-ok c P =
     let s = c.args.self.now in
     let g = lengthened-grown s.stack c.link.new.self (adds-lengthened s.stack c.link.new.self _ _ c.in_ok-list.ensures.ok) in
-    on_ok_map c.enter.result (moved-grown c.args.program.now s _ c.enter.new.self _ _ g refl
-    (go-same _ _ _ _ _ _ _ _ (ap (λ cs. Choice [] ∷ cs) (around-grown s.stack c.link.new.self c.args.around g c.requires.around).0) c.in_ok-list.ensures.ok.is g.count refl)) c.enter.ensures.ok
+    on_ok_map c.enter.result (moved-grown P s _ c.enter.new.self _ _ g refl
+    (go-same _ _ _ _ _ _ _ _ (ap (λ cs. Choice [] ∷ cs) (around-grown s.stack c.link.new.self c.args.around g c.requires.around).0) c.in_ok-list.ensures.ok.is g.count refl)) (c.enter.ensures.ok P)
 
 pub returns-clause-err : goal.returns-clause-err
-returns-clause-err c =
+returns-clause-err c P =
     let s = c.args.self.now in
     let g = lengthened-grown s.stack c.link.new.self (adds-lengthened s.stack c.link.new.self _ _ c.in_ok-list.ensures.ok) in
-    on_err_map c.enter.result (stays-trans c.args.program.now s _ c.enter.new.self (grown-stays c.args.program.now s _ g refl)) c.enter.ensures.err
+    on_err_map c.enter.result (stays-trans P s _ c.enter.new.self (grown-stays P s _ g refl)) (c.enter.ensures.err P)
 
 pub enter-requires-clause-fits : goal.enter-requires-clause-fits
 enter-requires-clause-fits c =

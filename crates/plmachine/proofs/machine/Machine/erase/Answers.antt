@@ -11,40 +11,37 @@ use Rattle.plmachine.proofs.Updating.{erase-asked, erased-becomes, erased-moved,
 use Rattle.plmachine.proofs.machine.Machine.erase.Goals as goal
 
 pub returns-then-not-is_open-clause-ok : goal.returns-then-not-is_open-clause-ok
-returns-then-not-is_open-clause-ok c =
+returns-then-not-is_open-clause-ok c P =
     let s = c.args.self.now in
-    asks c.args.program.now s _ (questions.Erase c.args.name) c.args.rest tt (ap (λ (st : State). record s { stack = st; mode = modes.Ask (questions.Erase c.args.name) }) c.visit.ensures.is)
+    asks P s _ (questions.Erase c.args.name) c.args.rest tt (ap (λ (st : State). record s { stack = st; mode = modes.Ask (questions.Erase c.args.name) }) c.visit.ensures.is)
 
 pub returns-then-not-is_open-clause-becomes : goal.returns-then-not-is_open-clause-becomes
-returns-then-not-is_open-clause-becomes c =
-    let P = c.args.program.now in
+returns-then-not-is_open-clause-becomes c P =
     let s = c.args.self.now in
     subst (λ (b : Bool). ErasesBefore P b s (record s { stack = c.visit.new.self; mode = modes.Ask (questions.Erase c.args.name) }) c.args.name (goals_of s.stack c.args.rest)) c.if-not-is_open.ensures
     (erase-asked P s _ c.args.name c.args.rest (ap (λ (st : State). record s { stack = st; mode = modes.Ask (questions.Erase c.args.name) }) c.visit.ensures.is))
 
 pub returns-in-Erased-clause-ok : goal.returns-in-Erased-clause-ok
-returns-in-Erased-clause-ok c =
+returns-in-Erased-clause-ok c P =
     let s = c.args.self.now in
-    erased-moved c.args.program.now s _ c.args.name c.args.rest Erased (sym c.in-Erased.is ∙ c.in_ok-erase.ensures.answer) (sym c.if-not-is_open.ensures) refl c.requires.tied c.visit-in-Erased.ensures.own
+    erased-moved P s _ c.args.name c.args.rest Erased (sym c.in-Erased.is ∙ c.in_ok-erase.ensures.answer) (sym c.if-not-is_open.ensures) refl c.requires.tied c.visit-in-Erased.ensures.own
     (ap₂ (λ (x : Layered) (st : State). record s { layer = x; stack = st; mode = modes.Visit }) c.in_ok-erase.ensures.erased c.visit-in-Erased.ensures.is)
 
 pub returns-in-Erased-clause-becomes : goal.returns-in-Erased-clause-becomes
-returns-in-Erased-clause-becomes c =
-    let P = c.args.program.now in
+returns-in-Erased-clause-becomes c P =
     let s = c.args.self.now in
     subst (λ (b : Bool). ErasesBefore P b s (record s { layer = c.erase.new.self; stack = c.visit-in-Erased.new.self; mode = modes.Visit }) c.args.name (goals_of s.stack c.args.rest)) c.if-not-is_open.ensures
     (erased-becomes P s _ c.args.name c.args.rest Erased (sym c.in-Erased.is ∙ c.in_ok-erase.ensures.answer) (sym c.if-not-is_open.ensures) refl c.requires.tied c.visit-in-Erased.ensures.own
     (ap₂ (λ (x : Layered) (st : State). record s { layer = x; stack = st; mode = modes.Visit }) c.in_ok-erase.ensures.erased c.visit-in-Erased.ensures.is))
 
 pub returns-in-Gone-clause-ok : goal.returns-in-Gone-clause-ok
-returns-in-Gone-clause-ok c =
+returns-in-Gone-clause-ok c P =
     let s = c.args.self.now in
-    gone-moved c.args.program.now s c.give.new.self c.args.name c.args.rest Gone (sym c.in-Gone.is ∙ c.in_ok-erase.ensures.answer) (sym c.if-not-is_open.ensures) refl
+    gone-moved P s c.give.new.self c.args.name c.args.rest Gone (sym c.in-Gone.is ∙ c.in_ok-erase.ensures.answer) (sym c.if-not-is_open.ensures) refl
     (c.give.ensures ∙ ap (λ (x : Layered). record s { layer = x; mode = modes.Back outcomes.Fail }) c.in_ok-erase.ensures.erased)
 
 pub returns-in-Gone-clause-becomes : goal.returns-in-Gone-clause-becomes
-returns-in-Gone-clause-becomes c =
-    let P = c.args.program.now in
+returns-in-Gone-clause-becomes c P =
     let s = c.args.self.now in
     subst (λ (b : Bool). ErasesBefore P b s c.give.new.self c.args.name (goals_of s.stack c.args.rest)) c.if-not-is_open.ensures
     (gone-becomes P s c.give.new.self c.args.name c.args.rest Gone (sym c.in-Gone.is ∙ c.in_ok-erase.ensures.answer) (sym c.if-not-is_open.ensures) refl

@@ -13,7 +13,7 @@ use Rattle.plmachine.proofs.Offers.{offer-unifies}
 use Rattle.plmachine.proofs.machine.Machine.evaluate.Goals as goal
 
 pub returns-in-Ok-clause-ok : goal.returns-in-Ok-clause-ok
-returns-in-Ok-clause-ok c = λ t k.
+returns-in-Ok-clause-ok c = λ P b t k.
     let s = c.args.self.now in
     let n = s.stack.env.count in
     let p = indicator t in
@@ -22,18 +22,18 @@ returns-in-Ok-clause-ok c = λ t k.
     let found = c.in_ok-number.ensures k.right k.right_there in
     let is = ap (λ x. equals term x s.settings) (sym c.in-Ok.is ∙ found) in
     let fits : FitsSigned w64 c.in-Ok.number = search rules in
-    let moved = rw (to_z-of_z w64 c.in-Ok.number fits) at (c.give_number.ensures.ok c.args.program.now k.left k.left_there) in
-    on_ok_map c.give_number.result (moved-as c.args.program.now s c.give_number.new.self _ _ (offer-unifies term (int c.in-Ok.number) s.settings p es n (local_of s) refl ∙ ap (λ x. offer x p es n (local_of s)) is)) moved
+    let moved = rw (to_z-of_z w64 c.in-Ok.number fits) at (c.give_number.ensures.ok P k.left k.left_there) in
+    on_ok_map c.give_number.result (moved-as P s c.give_number.new.self _ _ (offer-unifies term (int c.in-Ok.number) s.settings p es n (local_of s) refl ∙ ap (λ x. offer x p es n (local_of s)) is)) moved
 
 pub returns-in-Err-clause-ok : goal.returns-in-Err-clause-ok
-returns-in-Err-clause-ok c = λ t k.
+returns-in-Err-clause-ok c = λ P b t k.
     let s = c.args.self.now in
     let found = c.in_ok-number.ensures k.right k.right_there in
     let is = ap (λ x. offer (equals (bound_at s.stack c.args.call.run k.left) x s.settings) (indicator t) (goals_of s.stack c.args.rest) s.stack.env.count (local_of s)) (sym c.in-Err.is ∙ found) in
-    on_ok_map c.raise_for.result (moved-as c.args.program.now s c.raise_for.new.self _ _ is) (c.raise_for.ensures.ok t k)
+    on_ok_map c.raise_for.result (moved-as P s c.raise_for.new.self _ _ is) ((c.raise_for.ensures.ok P b) t k)
 
 pub returns-in-Ok-clause-err : goal.returns-in-Ok-clause-err
-returns-in-Ok-clause-err c = c.give_number.ensures.err c.args.program.now
+returns-in-Ok-clause-err c P b = c.give_number.ensures.err P
 
 pub returns-in-Ok-clause-heap : goal.returns-in-Ok-clause-heap
 returns-in-Ok-clause-heap c = λ t k off small.

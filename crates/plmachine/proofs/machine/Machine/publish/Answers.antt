@@ -11,16 +11,16 @@ use Rattle.plmachine.proofs.Updating.{makes, publish-closed, publishing-none}
 use Rattle.plmachine.proofs.machine.Machine.publish.Goals as goal
 
 pub returns-then-is_open-clause-ok : goal.returns-then-is_open-clause-ok
-returns-then-is_open-clause-ok c =
+returns-then-is_open-clause-ok c P =
     let s = c.args.self.now in
-    makes c.args.program.now s c.go_on.new.self c.args.updates.items c.args.rest (sym c.if-is_open.ensures) c.requires.tied c.go_on.ensures.own
+    makes P s c.go_on.new.self c.args.updates.items c.args.rest (sym c.if-is_open.ensures) c.requires.tied c.go_on.ensures.own
     (c.go_on.ensures.is ∙ ap (λ (x : Layered). record s { layer = x; stack = record s.stack { goals = c.args.rest }; mode = modes.Visit }) c.in_ok-make.ensures.made)
 
 pub returns-then-is_empty-clause-ok : goal.returns-then-is_empty-clause-ok
-returns-then-is_empty-clause-ok c =
+returns-then-is_empty-clause-ok c P =
     let s = c.args.self.now in
     let none = eqb-true (vec_len c.args.updates) 0 (sym c.if-is_empty.ensures) in
-    moved-as c.args.program.now s c.go_on-then-is_empty.new.self _ _
+    moved-as P s c.go_on-then-is_empty.new.self _ _
     (ap (λ es. go_on es s.stack.env.count (local_of s)) (publishing-none c.args.updates.items (goals_of s.stack c.args.rest) (omega (arith, none, c.args.updates.ok.0)))
     ∙ publish-closed c.args.updates.items (goals_of s.stack c.args.rest) s.stack.env.count (local_of s) (sym c.if-is_open.ensures))
-    (went c.args.program.now s c.go_on-then-is_empty.new.self s.stack c.args.rest (goals_of s.stack c.args.rest) (lengthened-grown s.stack s.stack (lengthened-same s.stack)) (holds-list s.stack c.args.rest c.requires.rest) c.go_on-then-is_empty.ensures.is)
+    (went P s c.go_on-then-is_empty.new.self s.stack c.args.rest (goals_of s.stack c.args.rest) (lengthened-grown s.stack s.stack (lengthened-same s.stack)) (holds-list s.stack c.args.rest c.requires.rest) c.go_on-then-is_empty.ensures.is)

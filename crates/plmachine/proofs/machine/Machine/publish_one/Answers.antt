@@ -5,7 +5,7 @@ use Rattle.plmachine.proofs.Updating.{makes}
 use Rattle.plmachine.proofs.machine.Machine.publish_one.Goals as goal
 
 pub returns-then-is_open-clause-ok : goal.returns-then-is_open-clause-ok
-returns-then-is_open-clause-ok c =
+returns-then-is_open-clause-ok c P =
     let s = c.args.self.now in
-    makes c.args.program.now s c.go_on.new.self (c.args.update ∷ []) c.args.rest (sym c.if-is_open.ensures) c.requires.tied c.go_on.ensures.own
+    makes P s c.go_on.new.self (c.args.update ∷ []) c.args.rest (sym c.if-is_open.ensures) c.requires.tied c.go_on.ensures.own
     (c.go_on.ensures.is ∙ ap (λ (x : Layered). record s { layer = x; stack = record s.stack { goals = c.args.rest }; mode = modes.Visit }) c.in_ok-make_one.ensures.made)

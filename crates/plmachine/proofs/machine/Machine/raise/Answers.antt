@@ -6,13 +6,13 @@ use Rattle.plmachine.proofs.Moves.{raises, stays_put, on_err}
 use Rattle.plmachine.proofs.machine.Machine.raise.Goals as goal
 
 pub returns-in_err-ball-clause-err : goal.returns-in_err-ball-clause-err
-returns-in_err-ball-clause-err c = on_err _ (stays_put c.args.program.now c.args.self.now)
+returns-in_err-ball-clause-err c P = on_err _ (stays_put P c.args.self.now)
 
 pub returns-in_err-levels-clause-err : goal.returns-in_err-levels-clause-err
-returns-in_err-levels-clause-err c = on_err _ (stays_put c.args.program.now c.args.self.now)
+returns-in_err-levels-clause-err c P = on_err _ (stays_put P c.args.self.now)
 
 pub returns-clause-ok : goal.returns-clause-ok
-returns-clause-ok c =
+returns-clause-ok c P =
     let s = c.args.self.now in
-    raises c.args.program.now s c.give.new.self c.args.error c.args.p.now (goals_of s.stack c.args.rest) _ (ap₂ Throw c.in_ok-ball.ensures c.in_ok-levels.ensures.is)
+    raises P s c.give.new.self c.args.error c.args.p.now (goals_of s.stack c.args.rest) _ (ap₂ Throw c.in_ok-ball.ensures c.in_ok-levels.ensures.is)
     (named-by s.stack c.args.rest c.in_ok-levels.levels.items c.in_ok-levels.ensures.named c.requires.fits) c.give.ensures

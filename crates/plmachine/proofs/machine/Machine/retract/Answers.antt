@@ -18,4 +18,4 @@ returns-clause-err c =
       | in-Some-neck w ↦ subst (Stays P s) (sym w.self-is) (stays_put P s)
       | in-None+in_ok-body-in-None w ↦ subst (Stays P s) (sym w.self-is) (grown-stays P s (record s { stack = w.put_true.new.self }) (record { extends = w.put_true.ensures.stays; count = w.put_true.ensures.count }) refl)
     ]))
-    c.seek.ensures.err
+    (c.seek.ensures.err c.args.program.now)

@@ -26,7 +26,7 @@ returns-clause-ok c =
     ap (λ ps. choose ps (local_of s)) (text-left (depth_of s) s.stack.env (clause_term h b) es uses.Tell (clauses_for P (indicator h)))
     ∙ retrieving-some (below_in v s) (clauses_for P (indicator h)) (depth_of s) h b es s.stack.env.count (local_of s)
     (λ e. true≢false (sym (eq-eqb _ 0 (ap length cs ∙ e)) ∙ sym c.is_empty.ensures ∙ c.if-is_empty.false))))
-    c.tell.ensures.ok
+    (c.tell.ensures.ok c.args.program.now)
 
 pub returns-then-is_empty-clause-ok : goal.returns-then-is_empty-clause-ok
 returns-then-is_empty-clause-ok c =
@@ -39,4 +39,4 @@ returns-then-is_empty-clause-ok c =
     on_ok_map c.seek.result
     (moved-by-as P s c.seek.new.self _ _ (λ v. retrieving-none (below_in v s) (clauses_for P (indicator h)) (depth_of s) h b (goals_of s.stack c.args.rest) s.stack.env.count (local_of s)
     (ap length (sym cs) ∙ eqb-true _ 0 (sym c.is_empty.ensures ∙ c.if-is_empty.true))))
-    c.seek.ensures.ok
+    (c.seek.ensures.ok c.args.program.now)

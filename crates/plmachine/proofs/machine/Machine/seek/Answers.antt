@@ -6,11 +6,11 @@ use Rattle.plmachine.proofs.Seeking.{seeks}
 use Rattle.plmachine.proofs.machine.Machine.seek.Goals as goal
 
 pub returns-in_err-find-clause-err : goal.returns-in_err-find-clause-err
-returns-in_err-find-clause-err c = on_err _ (grown-stays c.args.program.now c.args.self.now c.find_of.new.self c.find_of.ensures.grown c.find_of.ensures.frame)
+returns-in_err-find-clause-err c P = on_err _ (grown-stays P c.args.self.now c.find_of.new.self c.find_of.ensures.grown c.find_of.ensures.frame)
 
 pub returns-clause-ok : goal.returns-clause-ok
-returns-clause-ok c =
+returns-clause-ok c P =
     let t = c.find_of.new.self in
-    seeks c.args.program.now c.args.self.now t c.args.lookup c.view-view.result c.in_ok-find.find c.args.rest (sym c.if-not-is_open.ensures) c.view-view.ensures.place c.requires.tied c.view-view.ensures.is c.requires.rest c.requires.fits c.find_of.ensures.grown
+    seeks P c.args.self.now t c.args.lookup c.view-view.result c.in_ok-find.find c.args.rest (sym c.if-not-is_open.ensures) c.view-view.ensures.place c.requires.tied c.view-view.ensures.is c.requires.rest c.requires.fits c.find_of.ensures.grown
     c.in_ok-find.ensures.ok _ c.find_of.ensures.frame
     (ap (λ (st : State). record t { stack = st; mode = modes.Find c.in_ok-find.find }) (c.visit.ensures.is ∙ ap (λ (st : State). record st { goals = c.args.rest }) c.sees.ensures))

@@ -55,7 +55,7 @@ returns-in-Both-clause-ok c t sel =
     on_ok_map c.both.result
     (λ moved. selected P s c.both.new.self c.args.form c.args.source t c.args.level (depth_of s) (goals_of s.stack c.args.rest) s.stack.env.count (local_of s) _ sel (ap (shown_form s.stack.env.heap (indicator t) s.args.items) c.in-Both.is)
     (moved-views P s c.both.new.self _ _ (λ v. both-is P (below_in v s) c.args.level t (depth_of s) (goals_of s.stack c.args.rest) s.stack.env.count (local_of s) (value s.stack.env.heap c.in-Both.a) (value s.stack.env.heap c.in-Both.b)) moved))
-    c.both.ensures.ok
+    (c.both.ensures.ok c.args.program.now)
 
 pub returns-in-Either-clause-ok : goal.returns-in-Either-clause-ok
 unfolding row
@@ -65,7 +65,7 @@ returns-in-Either-clause-ok c t sel =
     on_ok_map c.either.result
     (λ moved. selected P s c.either.new.self c.args.form c.args.source t c.args.level (depth_of s) (goals_of s.stack c.args.rest) s.stack.env.count (local_of s) _ sel (ap (shown_form s.stack.env.heap (indicator t) s.args.items) c.in-Either.is)
     (moved-views P s c.either.new.self _ _ (λ v. either-is P (below_in v s) c.args.level t (depth_of s) (goals_of s.stack c.args.rest) s.stack.env.count (local_of s) (value s.stack.env.heap c.in-Either.a) (value s.stack.env.heap c.in-Either.b)) moved))
-    c.either.ensures.ok
+    (c.either.ensures.ok c.args.program.now)
 
 pub returns-in-IfThen-clause-ok : goal.returns-in-IfThen-clause-ok
 unfolding row
@@ -75,7 +75,7 @@ returns-in-IfThen-clause-ok c t sel =
     on_ok_map c.then.result
     (λ moved. selected P s c.then.new.self c.args.form c.args.source t c.args.level (depth_of s) (goals_of s.stack c.args.rest) s.stack.env.count (local_of s) _ sel (ap (shown_form s.stack.env.heap (indicator t) s.args.items) c.in-IfThen.is)
     (moved-views P s c.then.new.self _ _ (λ v. then-is P (below_in v s) c.args.level t (depth_of s) (goals_of s.stack c.args.rest) s.stack.env.count (local_of s) (value s.stack.env.heap c.in-IfThen.condition) (value s.stack.env.heap c.in-IfThen.then) (atom (codes "fail"))) moved))
-    c.then.ensures.ok
+    (c.then.ensures.ok c.args.program.now c.requires.begun)
 
 pub returns-in-IfThenElse-clause-ok : goal.returns-in-IfThenElse-clause-ok
 unfolding row
@@ -85,56 +85,56 @@ returns-in-IfThenElse-clause-ok c t sel =
     on_ok_map c.then_else.result
     (λ moved. selected P s c.then_else.new.self c.args.form c.args.source t c.args.level (depth_of s) (goals_of s.stack c.args.rest) s.stack.env.count (local_of s) _ sel (ap (shown_form s.stack.env.heap (indicator t) s.args.items) c.in-IfThenElse.is)
     (moved-views P s c.then_else.new.self _ _ (λ v. then-else-is P (below_in v s) c.args.level t (depth_of s) (goals_of s.stack c.args.rest) s.stack.env.count (local_of s) (value s.stack.env.heap c.in-IfThenElse.condition) (value s.stack.env.heap c.in-IfThenElse.then) (value s.stack.env.heap c.in-IfThenElse.other)) moved))
-    c.then_else.ensures.ok
+    (c.then_else.ensures.ok c.args.program.now)
 
 pub returns-in-Not-clause-ok : goal.returns-in-Not-clause-ok
 unfolding row
 returns-in-Not-clause-ok c t sel =
     let s = c.args.self.now in
     let P = c.args.program.now in
-    on_ok_map c.not.result (λ moved. selected P s c.not.new.self c.args.form c.args.source t c.args.level (depth_of s) (goals_of s.stack c.args.rest) s.stack.env.count (local_of s) _ sel (ap (shown_form s.stack.env.heap (indicator t) s.args.items) c.in-Not.is) moved.moved) c.not.ensures.ok
+    on_ok_map c.not.result (λ moved. selected P s c.not.new.self c.args.form c.args.source t c.args.level (depth_of s) (goals_of s.stack c.args.rest) s.stack.env.count (local_of s) _ sel (ap (shown_form s.stack.env.heap (indicator t) s.args.items) c.in-Not.is) moved.moved) (c.not.ensures.ok c.args.program.now)
 
 pub returns-in-Once-clause-ok : goal.returns-in-Once-clause-ok
 unfolding row
 returns-in-Once-clause-ok c t sel =
     let s = c.args.self.now in
     let P = c.args.program.now in
-    on_ok_map c.once.result (λ moved. selected P s c.once.new.self c.args.form c.args.source t c.args.level (depth_of s) (goals_of s.stack c.args.rest) s.stack.env.count (local_of s) _ sel (ap (shown_form s.stack.env.heap (indicator t) s.args.items) c.in-Once.is) moved.moved) c.once.ensures.ok
+    on_ok_map c.once.result (λ moved. selected P s c.once.new.self c.args.form c.args.source t c.args.level (depth_of s) (goals_of s.stack c.args.rest) s.stack.env.count (local_of s) _ sel (ap (shown_form s.stack.env.heap (indicator t) s.args.items) c.in-Once.is) moved.moved) (c.once.ensures.ok c.args.program.now)
 
 pub returns-in-Catching-clause-ok : goal.returns-in-Catching-clause-ok
 unfolding row
 returns-in-Catching-clause-ok c t sel =
     let s = c.args.self.now in
     let P = c.args.program.now in
-    on_ok_map c.catching.result (λ moved. selected P s c.catching.new.self c.args.form c.args.source t c.args.level (depth_of s) (goals_of s.stack c.args.rest) s.stack.env.count (local_of s) _ sel (ap (shown_form s.stack.env.heap (indicator t) s.args.items) c.in-Catching.is) moved.moved) c.catching.ensures.ok
+    on_ok_map c.catching.result (λ moved. selected P s c.catching.new.self c.args.form c.args.source t c.args.level (depth_of s) (goals_of s.stack c.args.rest) s.stack.env.count (local_of s) _ sel (ap (shown_form s.stack.env.heap (indicator t) s.args.items) c.in-Catching.is) moved.moved) (c.catching.ensures.ok c.args.program.now)
 
 pub returns-in-FindAll-clause-ok : goal.returns-in-FindAll-clause-ok
 unfolding row
 returns-in-FindAll-clause-ok c t sel =
     let s = c.args.self.now in
     let P = c.args.program.now in
-    on_ok_map c.find_all.result (λ moved. selected P s c.find_all.new.self c.args.form c.args.source t c.args.level (depth_of s) (goals_of s.stack c.args.rest) s.stack.env.count (local_of s) _ sel (ap (shown_form s.stack.env.heap (indicator t) s.args.items) c.in-FindAll.is) moved.moved) c.find_all.ensures.ok
+    on_ok_map c.find_all.result (λ moved. selected P s c.find_all.new.self c.args.form c.args.source t c.args.level (depth_of s) (goals_of s.stack c.args.rest) s.stack.env.count (local_of s) _ sel (ap (shown_form s.stack.env.heap (indicator t) s.args.items) c.in-FindAll.is) moved.moved) (c.find_all.ensures.ok c.args.program.now)
 
 pub returns-in-Within-clause-ok : goal.returns-in-Within-clause-ok
 unfolding row
 returns-in-Within-clause-ok c t sel =
     let s = c.args.self.now in
     let P = c.args.program.now in
-    on_ok_map c.within.result (λ moved. selected P s c.within.new.self c.args.form c.args.source t c.args.level (depth_of s) (goals_of s.stack c.args.rest) s.stack.env.count (local_of s) _ sel (ap (shown_form s.stack.env.heap (indicator t) s.args.items) c.in-Within.is) moved.moved) c.within.ensures.ok
+    on_ok_map c.within.result (λ moved. selected P s c.within.new.self c.args.form c.args.source t c.args.level (depth_of s) (goals_of s.stack c.args.rest) s.stack.env.count (local_of s) _ sel (ap (shown_form s.stack.env.heap (indicator t) s.args.items) c.in-Within.is) moved.moved) (c.within.ensures.ok c.args.program.now)
 
 pub returns-in-Throwing-clause-ok : goal.returns-in-Throwing-clause-ok
 unfolding row
 returns-in-Throwing-clause-ok c t sel =
     let s = c.args.self.now in
     let P = c.args.program.now in
-    on_ok_map c.throw.result (λ moved. selected P s c.throw.new.self c.args.form c.args.source t c.args.level (depth_of s) (goals_of s.stack c.args.rest) s.stack.env.count (local_of s) _ sel (ap (shown_form s.stack.env.heap (indicator t) s.args.items) c.in-Throwing.is) moved.moved) c.throw.ensures.ok
+    on_ok_map c.throw.result (λ moved. selected P s c.throw.new.self c.args.form c.args.source t c.args.level (depth_of s) (goals_of s.stack c.args.rest) s.stack.env.count (local_of s) _ sel (ap (shown_form s.stack.env.heap (indicator t) s.args.items) c.in-Throwing.is) moved.moved) (c.throw.ensures.ok c.args.program.now)
 
 pub returns-in-Cut-clause-ok : goal.returns-in-Cut-clause-ok
 unfolding row
 returns-in-Cut-clause-ok c t sel =
     let s = c.args.self.now in
     let P = c.args.program.now in
-    on_ok_map c.cut.result (λ moved. selected P s c.cut.new.self c.args.form c.args.source t c.args.level (depth_of s) (goals_of s.stack c.args.rest) s.stack.env.count (local_of s) _ sel (ap (shown_form s.stack.env.heap (indicator t) s.args.items) c.in-Cut.is) moved.moved) c.cut.ensures.ok
+    on_ok_map c.cut.result (λ moved. selected P s c.cut.new.self c.args.form c.args.source t c.args.level (depth_of s) (goals_of s.stack c.args.rest) s.stack.env.count (local_of s) _ sel (ap (shown_form s.stack.env.heap (indicator t) s.args.items) c.in-Cut.is) moved.moved) (c.cut.ensures.ok c.args.program.now)
 
 pub returns-in-Adding-clause-ok : goal.returns-in-Adding-clause-ok
 unfolding row
@@ -176,21 +176,21 @@ unfolding row
 returns-in-HaltWith-clause-ok c t sel =
     let s = c.args.self.now in
     let P = c.args.program.now in
-    on_ok_map c.halt_with.result (λ moved. selected P s c.halt_with.new.self c.args.form c.args.source t c.args.level (depth_of s) (goals_of s.stack c.args.rest) s.stack.env.count (local_of s) _ sel (ap (shown_form s.stack.env.heap (indicator t) s.args.items) c.in-HaltWith.is) moved.moved) c.halt_with.ensures.ok
+    on_ok_map c.halt_with.result (λ moved. selected P s c.halt_with.new.self c.args.form c.args.source t c.args.level (depth_of s) (goals_of s.stack c.args.rest) s.stack.env.count (local_of s) _ sel (ap (shown_form s.stack.env.heap (indicator t) s.args.items) c.in-HaltWith.is) moved.moved) (c.halt_with.ensures.ok c.args.program.now)
 
 pub returns-in-BuiltIn-clause-ok : goal.returns-in-BuiltIn-clause-ok
 unfolding row
 returns-in-BuiltIn-clause-ok c t sel =
     let s = c.args.self.now in
     let P = c.args.program.now in
-    on_ok_map c.built_in.result (λ moved. selected P s c.built_in.new.self c.args.form c.args.source t c.args.level (depth_of s) (goals_of s.stack c.args.rest) s.stack.env.count (local_of s) _ sel (ap (shown_form s.stack.env.heap (indicator t) s.args.items) c.in-BuiltIn.is) moved.moved) (c.built_in.ensures.ok t sel.stands)
+    on_ok_map c.built_in.result (λ moved. selected P s c.built_in.new.self c.args.form c.args.source t c.args.level (depth_of s) (goals_of s.stack c.args.rest) s.stack.env.count (local_of s) _ sel (ap (shown_form s.stack.env.heap (indicator t) s.args.items) c.in-BuiltIn.is) moved.moved) ((c.built_in.ensures.ok c.args.program.now c.requires.begun) t sel.stands)
 
 pub returns-in-Call-clause-ok : goal.returns-in-Call-clause-ok
 unfolding row
 returns-in-Call-clause-ok c t sel =
     let s = c.args.self.now in
     let P = c.args.program.now in
-    on_ok_map c.call.result (selected P s c.call.new.self c.args.form c.args.source t c.args.level (depth_of s) (goals_of s.stack c.args.rest) s.stack.env.count (local_of s) _ sel (ap (shown_form s.stack.env.heap (indicator t) s.args.items) c.in-Call.is)) (c.call.ensures.ok _ t sel.stands (subst (λ f. IsCall P s f t) c.in-Call.is sel.call))
+    on_ok_map c.call.result (selected P s c.call.new.self c.args.form c.args.source t c.args.level (depth_of s) (goals_of s.stack c.args.rest) s.stack.env.count (local_of s) _ sel (ap (shown_form s.stack.env.heap (indicator t) s.args.items) c.in-Call.is)) ((c.call.ensures.ok c.args.program.now c.requires.begun) _ t sel.stands (subst (λ f. IsCall P s f t) c.in-Call.is sel.call))
 
 pub returns-in-CallWith-clause-ok : goal.returns-in-CallWith-clause-ok
 unfolding row
@@ -203,7 +203,7 @@ returns-in-CallWith-clause-ok c t sel =
     (λ moved. selected P s c.call_with.new.self c.args.form c.args.source t c.args.level (depth_of s) (goals_of s.stack c.args.rest) s.stack.env.count (local_of s) _ sel
     (ap (shown_form h (indicator t) s.args.items) c.in-CallWith.is ∙ ap (λ xs. call_with (map (value h) xs)) x.2)
     (moved-as P s c.call_with.new.self _ _ (ap (λ k. run (called (value h x.0) (map (value h) x.1)) (call_n k) [] (depth_of s) (goals_of s.stack c.args.rest) s.stack.env.count (local_of s)) (sym (length-map x.1 (value h)))) moved).moved)
-    (c.call_with.ensures.ok x.0 x.1 x.2)
+    ((c.call_with.ensures.ok c.args.program.now) x.0 x.1 x.2)
 
 pub both-requires-clause-first : goal.both-requires-clause-first
 both-requires-clause-first c = (subst (IsInside c.args.self.now.stack.env.heap c.args.self.now.args.items) c.in-Both.is c.requires.selected.1.inside).0

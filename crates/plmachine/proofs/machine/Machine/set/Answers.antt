@@ -5,7 +5,7 @@ use Rattle.plmachine.proofs.Moves.{visits}
 use Rattle.plmachine.proofs.machine.Machine.set.Goals as goal
 
 pub returns : goal.returns
-returns c =
+returns c P =
     let s = c.args.self.now in
-    visits c.args.program.now s c.go_on.new.self s.stack c.args.rest _ _ (lengthened-grown s.stack s.stack (lengthened-same s.stack)) (holds-list s.stack c.args.rest c.requires.rest)
+    visits P s c.go_on.new.self s.stack c.args.rest _ _ (lengthened-grown s.stack s.stack (lengthened-same s.stack)) (holds-list s.stack c.args.rest c.requires.rest)
     (ap (λ x. x.stack) c.go_on.ensures.is) (ap (λ x. x.layer) c.go_on.ensures.is) (ap (λ x. x.mode) c.go_on.ensures.is) (ap (λ x. local_of x) c.go_on.ensures.is)

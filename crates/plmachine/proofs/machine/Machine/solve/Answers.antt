@@ -34,7 +34,7 @@ returns-in-Some-clause-ok c = λ u stands.
     let s = c.args.self.now in
     let P = c.args.program.now in
     let k = subst (λ o. IfSome o (λ k. IsCalculation s.stack k u)) c.in-Some.is (c.calculation.ensures.some P u c.requires.begun stands) in
-    on_ok_map c.calculate.result (moved-views P s c.calculate.new.self _ _ (λ v. ap (λ f. row P (below_in v s) f c.args.level u (depth_of s) (goals_of s.stack c.args.rest) s.stack.env.count (local_of s)) (sym k.is))) (c.calculate.ensures.ok u k)
+    on_ok_map c.calculate.result (moved-views P s c.calculate.new.self _ _ (λ v. ap (λ f. row P (below_in v s) f c.args.level u (depth_of s) (goals_of s.stack c.args.rest) s.stack.env.count (local_of s)) (sym k.is))) ((c.calculate.ensures.ok c.args.program.now c.requires.begun) u k)
 
 pub calculate-requires-clause-fits : goal.calculate-requires-clause-fits
 calculate-requires-clause-fits c =
@@ -64,12 +64,12 @@ returns-in-Some-static_by-clause-ok c u stands =
     (λ moved. row-with P s t c.resolve.new.self grown c.number.ensures.frame u k _ _ goals
     (selected P t c.resolve.new.self _ c.args.source u k (depth_of t) (goals_of t.stack c.args.rest) t.stack.env.count (local_of t) _ sel refl
     (moved-views P t c.resolve.new.self _ _ (λ v. user-some (below_in v t) (clauses_for P (indicator u)) (depth_of t) u (goals_of t.stack c.args.rest) t.stack.env.count (local_of t) i.static.some) moved)))
-    (c.resolve.ensures.ok (indicator u) u i)
+    ((c.resolve.ensures.ok c.args.program.now c.requires.begun) (indicator u) u i)
 
 pub returns-in-Some-static_by-clause-err : goal.returns-in-Some-static_by-clause-err
 returns-in-Some-static_by-clause-err c =
     let s = c.args.self.now in
-    on_err_map c.resolve.result (stays-trans c.args.program.now s c.number.new.self c.resolve.new.self (grown-with c.args.program.now s c.number.new.self c.number.ensures.grown c.number.ensures.frame)) c.resolve.ensures.err
+    on_err_map c.resolve.result (stays-trans c.args.program.now s c.number.new.self c.resolve.new.self (grown-with c.args.program.now s c.number.new.self c.number.ensures.grown c.number.ensures.frame)) (c.resolve.ensures.err c.args.program.now c.requires.begun)
 
 pub returns-clause-ok : goal.returns-clause-ok
 returns-clause-ok c u stands =

@@ -20,7 +20,7 @@ returns-in-Or-clause-ok c es at =
     on_ok_map c.either.result (moved-views P s c.either.new.self _ _ (λ v.
     either-move P (below_in v s) s.stack r (depth_of s) (goals_of s.stack c.args.rest) s.stack.env.count (local_of s) at.goal at.is_converted e.left e.right _ _ e.form_is
     (ap (elements_of s.stack) c.branch-left.ensures ∙ branch-is s.stack r at.width at.own at.slots c.in-Or.left e.left e.left_begins.goals)
-    (ap (elements_of s.stack) c.branch-right.ensures ∙ branch-is s.stack r at.width at.own at.slots c.in-Or.right e.right e.right_begins.goals))) c.either.ensures.ok
+    (ap (elements_of s.stack) c.branch-right.ensures ∙ branch-is s.stack r at.width at.own at.slots c.in-Or.right e.right e.right_begins.goals))) (c.either.ensures.ok c.args.program.now)
 
 pub returns-in-IfThen-clause-ok : goal.returns-in-IfThen-clause-ok
 returns-in-IfThen-clause-ok c es at =
@@ -32,7 +32,7 @@ returns-in-IfThen-clause-ok c es at =
     on_ok_map c.then.result (moved-views P s c.then.new.self _ _ (λ v.
     then-move P (below_in v s) s.stack r d (goals_of s.stack c.args.rest) s.stack.env.count (local_of s) at.goal at.is_converted e.condition e.success _ _ e.form_is
     (ap (λ x. elements_of s.stack (at_level (suc d) x)) c.branch-condition.ensures ∙ branch-level s.stack r at.width at.own at.slots c.in-IfThen.condition e.condition e.condition_begins.goals (suc d))
-    (ap (elements_of s.stack) c.branch-then.ensures ∙ branch-is s.stack r at.width at.own at.slots c.in-IfThen.then e.success e.success_begins.goals))) c.then.ensures.ok
+    (ap (elements_of s.stack) c.branch-then.ensures ∙ branch-is s.stack r at.width at.own at.slots c.in-IfThen.then e.success e.success_begins.goals))) (c.then.ensures.ok c.args.program.now c.requires.begun)
 
 pub returns-in-IfThenElse-clause-ok : goal.returns-in-IfThenElse-clause-ok
 returns-in-IfThenElse-clause-ok c es at =
@@ -45,7 +45,7 @@ returns-in-IfThenElse-clause-ok c es at =
     then-else-move P (below_in v s) s.stack r d (goals_of s.stack c.args.rest) s.stack.env.count (local_of s) at.goal at.is_converted e.condition e.success e.failure _ _ _ e.form_is
     (ap (λ x. elements_of s.stack (at_level (suc d) x)) c.branch-condition-in-IfThenElse.ensures ∙ branch-level s.stack r at.width at.own at.slots c.in-IfThenElse.condition e.condition e.condition_begins.goals (suc d))
     (ap (elements_of s.stack) c.branch-then-in-IfThenElse.ensures ∙ branch-is s.stack r at.width at.own at.slots c.in-IfThenElse.then e.success e.success_begins.goals)
-    (ap (elements_of s.stack) c.branch-other.ensures ∙ branch-is s.stack r at.width at.own at.slots c.in-IfThenElse.other e.failure e.failure_begins.goals))) c.then_else.ensures.ok
+    (ap (elements_of s.stack) c.branch-other.ensures ∙ branch-is s.stack r at.width at.own at.slots c.in-IfThenElse.other e.failure e.failure_begins.goals))) (c.then_else.ensures.ok c.args.program.now)
 
 pub returns-in-Goal-clause-ok : goal.returns-in-Goal-clause-ok
 returns-in-Goal-clause-ok c es at =

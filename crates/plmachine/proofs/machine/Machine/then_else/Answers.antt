@@ -12,9 +12,9 @@ use Rattle.plstack.specs.Levels.{Choosing, FitsIn}
 use Rattle.plmachine.proofs.machine.Machine.then_else.Goals as goal
 
 pub returns-in_err-following-clause-err : goal.returns-in_err-following-clause-err
-returns-in_err-following-clause-err c =
+returns-in_err-following-clause-err c P =
     let s = c.args.self.now in
-    on_err _ (grown-stays c.args.program.now s _ (lengthened-grown s.stack c.two_before.new.stack c.two_before.ensures.grows) refl)
+    on_err _ (grown-stays P s _ (lengthened-grown s.stack c.two_before.new.stack c.two_before.ensures.grows) refl)
 
 pub two_in_turn-requires-clause-first : goal.two_in_turn-requires-clause-first
 two_in_turn-requires-clause-first c =
@@ -22,13 +22,13 @@ two_in_turn-requires-clause-first c =
     subst (IsPart c.two_before.new.stack) (sym c.at_level.ensures) (part-level c.two_before.new.stack c.in-Some.inner c.args.condition (part-there s.stack c.two_before.new.stack c.two_before.ensures.grows c.args.condition c.requires.condition))
 
 pub returns-in_err-list-clause-err : goal.returns-in_err-list-clause-err
-returns-in_err-list-clause-err c =
+returns-in_err-list-clause-err c P =
     let s = c.args.self.now in
     let f = lengthened-trans s.stack c.two_before.new.stack c.two_in_turn.new.stack c.two_before.ensures.grows c.two_in_turn.ensures.grows in
-    on_err _ (grown-stays c.args.program.now s _ (lengthened-grown s.stack c.two_in_turn.new.stack f) refl)
+    on_err _ (grown-stays P s _ (lengthened-grown s.stack c.two_in_turn.new.stack f) refl)
 
 pub returns-clause-ok : goal.returns-clause-ok
-returns-clause-ok c =
+returns-clause-ok c P =
     let s = c.args.self.now in
     let a = c.two_before.new.stack in
     let b = c.two_in_turn.new.stack in
@@ -39,17 +39,17 @@ returns-clause-ok c =
     let failing = c.two_in_turn.ensures.grows.extends.lists c.in_ok-following.failing c.in_ok-following.ensures.second.there in
     let list = then-list s.stack a b c.args.condition c.args.then c.in_ok-following.following c.in_ok-list.list (goals_of s.stack c.args.rest) c.two_before.ensures.grows c.in_ok-following.ensures.first
     c.at_level.result c.in-Some.inner (suc (depth_of s)) c.depth-depth.result (depth_of s) c.at_level.ensures (next ∙ ap suc depth) depth c.in_ok-list.ensures.ok in
-    on_ok_map c.enter.result (moved-grown c.args.program.now s _ c.enter.new.self _ _ g refl
+    on_ok_map c.enter.result (moved-grown P s _ c.enter.new.self _ _ g refl
     (go-same _ _ _ _ _ _ _ _
     (ap₂ (λ gs n. Choice [] ∷ branch gs n ∷ []) (failing.1 ∙ c.in_ok-following.ensures.second.is) g.count)
     list.is
-    g.count refl)) c.enter.ensures.ok
+    g.count refl)) (c.enter.ensures.ok P)
 
 pub returns-clause-err : goal.returns-clause-err
-returns-clause-err c =
+returns-clause-err c P =
     let s = c.args.self.now in
     let f = lengthened-trans s.stack c.two_before.new.stack c.two_in_turn.new.stack c.two_before.ensures.grows c.two_in_turn.ensures.grows in
-    on_err_map c.enter.result (stays-trans c.args.program.now s _ c.enter.new.self (grown-stays c.args.program.now s _ (lengthened-grown s.stack c.two_in_turn.new.stack f) refl)) c.enter.ensures.err
+    on_err_map c.enter.result (stays-trans P s _ c.enter.new.self (grown-stays P s _ (lengthened-grown s.stack c.two_in_turn.new.stack f) refl)) (c.enter.ensures.err P)
 
 pub enter-requires-clause-around : goal.enter-requires-clause-around
 enter-requires-clause-around c =

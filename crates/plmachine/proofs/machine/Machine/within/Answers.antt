@@ -17,13 +17,13 @@ use Rattle.plmachine.proofs.Moves.{grown-depth, grown-stays, moved-grown, on_err
 use Rattle.plmachine.proofs.machine.Machine.within.Goals as goal
 
 pub returns-in_err-entry-clause-err : goal.returns-in_err-entry-clause-err
-returns-in_err-entry-clause-err c = on_err _ (grown-stays c.args.program.now c.args.self.now c.entry.new.self c.entry.ensures.grown c.entry.ensures.frame)
+returns-in_err-entry-clause-err c P = on_err _ (grown-stays P c.args.self.now c.entry.new.self c.entry.ensures.grown c.entry.ensures.frame)
 
 pub returns-in_err-enter-clause-err : goal.returns-in_err-enter-clause-err
-returns-in_err-enter-clause-err c =
+returns-in_err-enter-clause-err c P =
     let s = c.args.self.now in
     let t = c.entry.new.self in
-    on_err _ (subst (λ (x : Layered). Stays c.args.program.now s (record t { layer = x })) (sym c.in_err-enter.ensures.refused) (grown-stays c.args.program.now s t c.entry.ensures.grown c.entry.ensures.frame))
+    on_err _ (subst (λ (x : Layered). Stays P s (record t { layer = x })) (sym c.in_err-enter.ensures.refused) (grown-stays P s t c.entry.ensures.grown c.entry.ensures.frame))
 
 pub start-requires : goal.start-requires
 start-requires c =
@@ -42,11 +42,10 @@ end-requires c =
     ap (λ (x : Layered). any_open x.own) c.in_ok-enter.ensures.begun ∙ ap some_open (begun-inner c.args.kind t.layer.own.base t.layer.own some).0
 
 pub returns-in-Ok-clause-ok : goal.returns-in-Ok-clause-ok
-returns-in-Ok-clause-ok c =
+returns-in-Ok-clause-ok c P =
     let s = c.args.self.now in
     let t = c.entry.new.self in
     let st = c.open_transaction.new.self in
-    let P = c.args.program.now in
     let g = c.entry.ensures.grown in
     let d = depth_of s in
     let es = goals_of s.stack c.args.rest in
@@ -70,12 +69,12 @@ returns-in-Ok-clause-ok c =
     (begins-inside P t c.args.rest st c.start.new.self e r p (suc (suc d)) (Marker (Transact d) (suc d) ∷ es) c.in_ok-entry.ensures.ok fits c.args.kind tied some opens is)
 
 pub returns-in-Err-clause-err : goal.returns-in-Err-clause-err
-returns-in-Err-clause-err c =
+returns-in-Err-clause-err c P =
     let s = c.args.self.now in
     let t = c.entry.new.self in
     let some : any_open t.layer.own ≡ true = ap (λ (x : Reached). any_open x.layer.own) c.entry.ensures.frame ∙ sym c.is_open.ensures ∙ c.if-not-is_open.false in
     let back : c.end.new.self ≡ t.layer =
     c.end.ensures.ended ∙ ap (λ (x : Layered). record { own = ended false x.own; place = x.place }) c.in_ok-enter.ensures.begun
     ∙ ap (λ (o : Own). record { own = o; place = t.layer.place }) (begun-ended c.args.kind t.layer.own.base t.layer.own some) in
-    subst (λ (x : Layered). Stays c.args.program.now s (record t { stack = c.open_transaction.new.self; layer = x })) (sym back)
-    (subst (λ st. Stays c.args.program.now s (record t { stack = st })) (sym c.in-Err.ensures.err) (grown-stays c.args.program.now s t c.entry.ensures.grown c.entry.ensures.frame))
+    subst (λ (x : Layered). Stays P s (record t { stack = c.open_transaction.new.self; layer = x })) (sym back)
+    (subst (λ st. Stays P s (record t { stack = st })) (sym c.in-Err.ensures.err) (grown-stays P s t c.entry.ensures.grown c.entry.ensures.frame))

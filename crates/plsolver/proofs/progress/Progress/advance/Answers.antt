@@ -13,7 +13,11 @@ use Rattle.plsolver.proofs.progress.Progress.advance.Goals as goal
 
 pub told-requires-clause-due : goal.told-requires-clause-due
 unfolding Settled
-told-requires-clause-due c = rw c.in-Paused.is at c.in_ok-due.ensures.due
+told-requires-clause-due c = (c.args.program.now, rw c.in-Paused.is at c.in_ok-due.ensures.due)
+
+pub returns-in-Paused-clause-says : goal.returns-in-Paused-clause-says
+unfolding Settled
+returns-in-Paused-clause-says c = c.told.ensures.says c.args.program.now c.settle.ensures.of (rw c.in-Paused.is at c.in_ok-due.ensures.due)
 
 pub returns-then-self-until-clause-says : goal.returns-then-self-until-clause-says
 unfolding Says

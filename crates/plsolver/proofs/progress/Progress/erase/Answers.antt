@@ -7,9 +7,8 @@ use Rattle.plsolver.proofs.Transacting.{erased-ok}
 use Rattle.plsolver.proofs.progress.Progress.erase.Goals as goal
 
 pub returns-clause-ok : goal.returns-clause-ok
-returns-clause-ok c =
-    let P = c.args.program.now in
+returns-clause-ok c P b =
     let s = c.args.self.now in
     let t = c.erase.new.self in
-    erased-ok P s t c.args.name _ c.erase.result c.requires.erases.0 c.requires.erases.1 c.erase.ensures.ok
+    erased-ok P s t c.args.name _ c.erase.result c.requires.erases.0 c.requires.erases.1 (c.erase.ensures.ok P b)
     (subst (λ l. OnOk c.erase.result (ErasesBefore P (any_open s.machine.layer.own) s.machine t c.args.name (goals_of s.machine.stack l))) c.visited-rest.ensures.is c.erase.ensures.becomes)

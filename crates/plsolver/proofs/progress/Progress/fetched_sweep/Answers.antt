@@ -24,7 +24,7 @@ swept_behind-requires-clause-sweeps c =
     (head, c.sweeping-at.result.view, b.0, (a.0, a.1, a.2, a.3 ∙ c.in-Seek.is ∙ ap sweeps.Seek b.1))
 
 pub returns-in-Seek-clause-ok : goal.returns-in-Seek-clause-ok
-returns-in-Seek-clause-ok c =
+returns-in-Seek-clause-ok c P b =
     let s = c.args.self.now.machine in
     let a = c.sweeping-at.ensures in
     let head = c.sweeping-at.result.head in
@@ -35,7 +35,7 @@ returns-in-Seek-clause-ok c =
     let b = sweep-base s.layer.own.updates s.stack.env.heap (finds.Sweep head a.0) head a.0 c.in-Seek.field-0 q refl (a.3 ∙ c.in-Seek.is) k.1 in
     keeps v head view b.0 ordered (a.0, a.1, a.2, a.3 ∙ c.in-Seek.is ∙ ap sweeps.Seek b.1)
     (next-told v view.place q (value s.stack.env.heap head) b.0 c.args.found c.next_in.result b.2 (subst (λ (j : ℕ). c.args.found ≡ found (v j) q) (k.0 ∙ ap (λ (j : View). j.place) a.2) told) c.next_in.ensures))
-    c.swept_behind.ensures.ok
+    (c.swept_behind.ensures.ok P b)
 
 pub returns-in-Seek-clause-asked : goal.returns-in-Seek-clause-asked
 returns-in-Seek-clause-asked c =
@@ -55,20 +55,20 @@ pub sweep_past-requires-clause-sweeps : goal.sweep_past-requires-clause-sweeps
 sweep_past-requires-clause-sweeps c = let a = c.sweeping-at.ensures in (c.sweeping-at.result.head, c.sweeping-at.result.view, (a.0, a.1, a.2, a.3 ∙ c.in-At.is))
 
 pub returns-in-At-clause-ok : goal.returns-in-At-clause-ok
-returns-in-At-clause-ok c =
+returns-in-At-clause-ok c P b =
     let s = c.args.self.now.machine in
     on_ok_map c.sweep_past.result
     (λ past v ordered g q seeks told.
     let own = s.layer.own.updates in
     let k = seeks-of s g q (finds.Sweep past.head past.was) past.mode_was (inl seeks) in
     let b = sweep-clause own s.stack.env.heap (finds.Sweep past.head past.was) past.head past.was c.in-At.name c.in-At.reach q refl past.spot_was k.1 in
-    past.keeps c.args.program.now v ordered
+    past.keeps P v ordered
     (clause-told v past.was.view.place q c.in-At.name c.args.found c.clause_in.result b.1 (subst (λ (j : ℕ). c.args.found ≡ found (v j) q) k.0 told) c.clause_in.ensures
     ∙ sym (base-stays (sight_in v own past.was.view) c.in-At.name b.0.0 b.0.1)))
     c.sweep_past.ensures.ok
 
 pub returns-in-At-clause-err : goal.returns-in-At-clause-err
-returns-in-At-clause-err c = on_err_map c.sweep_past.result (λ stays. stays c.args.program.now) c.sweep_past.ensures.err
+returns-in-At-clause-err c P b = on_err_map c.sweep_past.result (λ stays. stays P) c.sweep_past.ensures.err
 
 pub returns-in-At-clause-asked : goal.returns-in-At-clause-asked
 returns-in-At-clause-asked c =

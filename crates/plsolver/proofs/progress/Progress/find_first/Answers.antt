@@ -27,12 +27,11 @@ pub returns-in_err-walk_from-in-Next-clause-walks : goal.returns-in_err-walk_fro
 returns-in_err-walk_from-in-Next-clause-walks c = onward_ends c.args.self.now.machine c.walk_from.new.self.machine.stack (ends_same _ _ c.in_err-walk_from-in-Next.ensures.err.there.walks)
 
 pub returns-in_ok-walk_from-in-Next-clause-keeps : goal.returns-in_ok-walk_from-in-Next-clause-keeps
-returns-in_ok-walk_from-in-Next-clause-keeps c =
-    let P = c.args.program.now in
+returns-in_ok-walk_from-in-Next-clause-keeps c P b =
     let s = c.args.self.now in
     let f = finds.First c.args.sought c.args.view in
     let w = c.in_ok-walk_from-in-Next.ensures.ok in
-    let found = subst (MayAsk s.machine.layer.own s.machine.stack) c.requires.finds c.requires.of.sound.askable in
+    let found = subst (MayAsk s.machine.layer.own s.machine.stack) c.requires.finds b.sound.askable in
     let step = subst (λ h. Steps s.machine.layer.own.updates h c.args.view (reaches.Front OwnStart) (steps.Next c.in-Next.name c.in-Next.reach)) (rw (c.heap-heap.ensures.is, c.env.ensures) at c.head_of-head.ensures.is) (rw c.in-Next.is at c.in_ok-step.ensures) in
     finds_keeps P s c.walk_from.new.self f c.requires.finds c.walk_from.ensures.frame (ap (λ b. b.latest.place) w.basis) (found_of P s.machine c.walk_from.new.self.machine f c.requires.finds (ap (λ x. x.mode) w.frame) (ap (λ x. x.layer) w.frame) w.basis)
     (λ v ordered. found-own P v ordered s.machine c.args.sought c.args.view c.requires.finds found.0.1 c.walk_from.new.self.machine c.in-Next.name c.in-Next.reach step.tells w)
@@ -56,7 +55,7 @@ returns-in_ok-walk_from-in-Next-clause-walks c =
 
 pub returns-in-Asks-clause-due : goal.returns-in-Asks-clause-due
 unfolding PausesAt
-returns-in-Asks-clause-due c =
+returns-in-Asks-clause-due c P b =
     let s = c.args.self.now.machine in
     let h = head_in c.args.sought.uses (value s.stack.env.heap c.args.sought.goal) in
     let step = subst (λ h. Steps s.layer.own.updates h c.args.view (reaches.Front OwnStart) (steps.Asks c.in-Asks.field-0)) (rw (c.heap-heap.ensures.is, c.env.ensures) at c.head_of-head.ensures.is) (rw c.in-Asks.is at c.in_ok-step.ensures) in

@@ -18,15 +18,14 @@ returns-in_err-is_named-clause-walks c = onward_ends c.args.self.now.machine c.a
 
 pub returns-then-not-branch-clause-due : goal.returns-then-not-branch-clause-due
 unfolding PausesAt
-returns-then-not-branch-clause-due c =
+returns-then-not-branch-clause-due c P b =
     (c.args.view.place, Query.Exists (indicator (value c.args.self.now.machine.stack.env.heap c.args.goal)), inl (finds.Exists c.args.goal c.args.view, c.requires.finds, refl, (sym c.in_ok-is_named.ensures ∙ c.if-not-branch.true, refl)))
 
 pub returns-then-not-branch-clause-walks : goal.returns-then-not-branch-clause-walks
 returns-then-not-branch-clause-walks c = onward_ends c.args.self.now.machine c.args.self.now.machine.stack (ends_refl _)
 
 pub returns-clause-keeps : goal.returns-clause-keeps
-returns-clause-keeps c =
-    let P = c.args.program.now in
+returns-clause-keeps c P b =
     let s = c.args.self.now in
     let f = finds.Exists c.args.goal c.args.view in
     finds_keeps P s (record s { machine = record s.machine { mode = modes.Back outcomes.Fail } }) f c.requires.finds refl refl (found_of P s.machine (record s.machine { mode = modes.Back outcomes.Fail }) f c.requires.finds refl refl refl)

@@ -10,12 +10,12 @@ use Rattle.plsolver.proofs.Finding.{not-there, there-fails, unnamed-exists}
 use Rattle.plsolver.proofs.progress.Progress.found_exists.Goals as goal
 
 pub returns-then-exists-clause-ok : goal.returns-then-exists-clause-ok
-returns-then-exists-clause-ok c = λ v ordered none is.
+returns-then-exists-clause-ok c = λ P b v ordered none is.
     let s = c.args.self.now.machine in
     record {
       used = refl;
       limit = refl;
-      rest = there-fails c.args.program.now v s c.args.goal c.args.view c.requires.finds c.args.exists (is ∙ sym (unnamed-exists v s.layer.own.updates c.args.view (indicator (value s.stack.env.heap c.args.goal)) none)) c.if-exists.true;
+      rest = there-fails P v s c.args.goal c.args.view c.requires.finds c.args.exists (is ∙ sym (unnamed-exists v s.layer.own.updates c.args.view (indicator (value s.stack.env.heap c.args.goal)) none)) c.if-exists.true;
     }
 
 pub returns-then-exists-clause-asked : goal.returns-then-exists-clause-asked
@@ -25,20 +25,20 @@ pub missing-requires-clause-seeks : goal.missing-requires-clause-seeks
 missing-requires-clause-seeks c = (finds.Exists c.args.goal c.args.view, c.requires.finds)
 
 pub returns-clause-ok : goal.returns-clause-ok
-returns-clause-ok c =
+returns-clause-ok c P b =
     let s = c.args.self.now.machine in
     let of = rw (c.heap.ensures.is, c.env.ensures) at c.in_ok-p.ensures in
     on_ok_map c.missing.result
     (λ moved v ordered none is. record {
       used = ap (λ x. x.used) c.missing.ensures.frame;
       limit = ap (λ x. x.limit) c.missing.ensures.frame;
-      rest = not-there c.args.program.now v s c.args.goal c.args.view c.requires.finds c.args.exists (is ∙ sym (unnamed-exists v s.layer.own.updates c.args.view (indicator (value s.stack.env.heap c.args.goal)) none)) ordered c.missing.new.self.machine c.if-exists.false
+      rest = not-there P v s c.args.goal c.args.view c.requires.finds c.args.exists (is ∙ sym (unnamed-exists v s.layer.own.updates c.args.view (indicator (value s.stack.env.heap c.args.goal)) none)) ordered c.missing.new.self.machine c.if-exists.false
           (moved (value s.stack.env.heap c.args.goal) of);
     })
-    c.missing.ensures.ok
+    (c.missing.ensures.ok P b)
 
 pub returns-clause-asked : goal.returns-clause-asked
 returns-clause-asked c =
     let s = c.args.self.now.machine in
     let of = rw (c.heap.ensures.is, c.env.ensures) at c.in_ok-p.ensures in
-    on_ok_map c.missing.result (λ moved v. let m = moved (value s.stack.env.heap c.args.goal) of in exists-asked v c.args.goal c.args.view s c.missing.new.self.machine m.plain m.moved.walks) c.missing.ensures.ok
+    on_ok_map c.missing.result (λ moved v. let m = moved (value s.stack.env.heap c.args.goal) of in exists-asked v c.args.goal c.args.view s c.missing.new.self.machine m.plain m.moved.walks) (c.missing.ensures.ok c.requires.of.0 c.requires.of.1)

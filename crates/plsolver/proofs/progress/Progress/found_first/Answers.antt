@@ -13,10 +13,9 @@ use Rattle.plsolver.proofs.Walking.{behind-viewed}
 use Rattle.plsolver.proofs.progress.Progress.found_first.Goals as goal
 
 pub returns-in-Some-clause-ok : goal.returns-in-Some-clause-ok
-returns-in-Some-clause-ok c =
-    let P = c.args.program.now in
+returns-in-Some-clause-ok c P b =
     let s = c.args.self.now.machine in
-    let found = subst (MayAsk s.layer.own s.stack) c.requires.finds c.requires.of.sound.askable in
+    let found = subst (MayAsk s.layer.own s.stack) c.requires.finds b.sound.askable in
     let step = subst (λ h. StepsFound s.layer.own.updates h c.args.view c.args.found c.in_ok-step.step) (rw (c.heap-heap.ensures.is, c.env.ensures) at c.head_of-head.ensures.is) c.in_ok-step.ensures in
     on_ok_map c.walk_from.result
     (λ w v ordered front is. record {
@@ -24,7 +23,7 @@ returns-in-Some-clause-ok c =
       limit = ap (λ x. x.limit) c.walk_from.ensures.frame;
       rest = found-some P v ordered s c.args.sought c.args.view c.requires.finds found.0.1 front c.args.found is c.in_ok-step.step step.tells step.leads c.walk_from.new.self.machine c.in-Some.spot (sym c.spot_behind.ensures ∙ c.in-Some.is) w;
     })
-    c.walk_from.ensures.ok
+    (c.walk_from.ensures.ok P)
 
 pub returns-in-Some-clause-asked : goal.returns-in-Some-clause-asked
 returns-in-Some-clause-asked c =
@@ -36,13 +35,12 @@ returns-in-Some-clause-asked c =
     (λ w walks v ordered told.
     first-found v c.args.sought c.args.view s new (ordered.ordered c.args.view.place) c.args.found (sym told) c.in_ok-step.step step.leads c.in-Some.spot is (subst (λ (y : Reached). IsPlain y.mode) (sym w.frame) tt) walks
     (behind-viewed (spots.Seek c.args.view (reaches.Base Start)) c.in-Some.spot c.args.view (reaches.Base Start) c.in_ok-step.step (inl refl) is))
-    c.walk_from.ensures.ok c.walk_from.ensures.walks
+    (c.walk_from.ensures.ok c.requires.of.0) c.walk_from.ensures.walks
 
 pub returns-in-None-clause-ok : goal.returns-in-None-clause-ok
-returns-in-None-clause-ok c = λ v ordered front told.
-    let P = c.args.program.now in
+returns-in-None-clause-ok c = λ P b v ordered front told.
     let s = c.args.self.now in
-    let found = subst (MayAsk s.machine.layer.own s.machine.stack) c.requires.finds c.requires.of.sound.askable in
+    let found = subst (MayAsk s.machine.layer.own s.machine.stack) c.requires.finds b.sound.askable in
     let step = subst (λ h. StepsFound s.machine.layer.own.updates h c.args.view c.args.found c.in_ok-step.step) (rw (c.heap-heap.ensures.is, c.env.ensures) at c.head_of-head.ensures.is) c.in_ok-step.ensures in
     subst (λ m. KeepsRest P v s (record s { machine = record s.machine { mode = m } })) (sym c.mode_without.ensures) (record {
       used = refl;

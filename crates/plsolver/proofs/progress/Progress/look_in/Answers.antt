@@ -7,25 +7,25 @@ use Rattle.plsolver.proofs.Taking.{asks-closed, looks-in, looks-of}
 use Rattle.plsolver.proofs.progress.Progress.look_in.Goals as goal
 
 pub find_of-requires : goal.find_of-requires
-find_of-requires c = (asks-closed c.args.program.now c.args.self.now (questions.Look c.args.lookup) c.requires.looks c.requires.of).1
+find_of-requires c = (asks-closed c.requires.of.0 c.args.self.now (questions.Look c.args.lookup) c.requires.looks c.requires.of.1).1
 
 pub returns-in_err-find-clause-err : goal.returns-in_err-find-clause-err
-returns-in_err-find-clause-err c =
+returns-in_err-find-clause-err c P b =
     let s = c.args.self.now in
-    on_err _ (grown-stays c.args.program.now s (record s { machine = c.find_of.new.self }) c.find_of.ensures.grown (ap (λ m. record s { machine = m }) c.find_of.ensures.frame))
+    on_err _ (grown-stays P s (record s { machine = c.find_of.new.self }) c.find_of.ensures.grown (ap (λ m. record s { machine = m }) c.find_of.ensures.frame))
 
 pub returns-clause-ok : goal.returns-clause-ok
-returns-clause-ok c =
+returns-clause-ok c P b =
     let s = c.args.self.now in
     let t = c.find_of.new.self in
-    looks-in c.args.program.now s (record s { machine = record t { stack = c.sees.new.self; mode = modes.Find c.in_ok-find.find } }) t c.args.lookup c.args.g c.in_ok-find.find c.requires.looks c.requires.of c.requires.latest c.find_of.ensures.grown c.find_of.ensures.frame
+    looks-in P s (record s { machine = record t { stack = c.sees.new.self; mode = modes.Find c.in_ok-find.find } }) t c.args.lookup c.args.g c.in_ok-find.find c.requires.looks b c.requires.latest c.find_of.ensures.grown c.find_of.ensures.frame
     c.in_ok-find.ensures.ok (ap (λ st. record t { stack = st; mode = modes.Find c.in_ok-find.find }) c.sees.ensures)
 
 pub returns-clause-of : goal.returns-clause-of
-returns-clause-of c =
+returns-clause-of c P b =
     let s = c.args.self.now in
     let t = c.find_of.new.self in
-    looks-of c.args.program.now s (record s { machine = record t { stack = c.sees.new.self; mode = modes.Find c.in_ok-find.find } }) t c.args.lookup c.args.g c.in_ok-find.find c.requires.looks c.requires.of c.requires.latest c.find_of.ensures.grown c.find_of.ensures.frame
+    looks-of P s (record s { machine = record t { stack = c.sees.new.self; mode = modes.Find c.in_ok-find.find } }) t c.args.lookup c.args.g c.in_ok-find.find c.requires.looks b c.requires.latest c.find_of.ensures.grown c.find_of.ensures.frame
     c.in_ok-find.ensures.ok (ap (λ st. record t { stack = st; mode = modes.Find c.in_ok-find.find }) c.sees.ensures)
 
 pub returns-clause-seeks : goal.returns-clause-seeks

@@ -11,17 +11,17 @@ use Rattle.plsolver.proofs.Seeking.{finds-last}
 use Rattle.plsolver.proofs.progress.Progress.missing.Goals as goal
 
 pub returns-in-Fail-clause-ok : goal.returns-in-Fail-clause-ok
-returns-in-Fail-clause-ok c = λ t of.
+returns-in-Fail-clause-ok c = λ P b t of.
     let s = c.args.self.now.machine in
-    subst (λ u. Moved c.args.program.now s (record s { mode = modes.Back outcomes.Fail }) (missing u t (goals_of s.stack s.stack.goals) (local_of s))) (sym c.in-Fail.is)
-    (gave c.args.program.now s (record s { mode = modes.Back outcomes.Fail }) outcomes.Fail tt refl)
+    subst (λ u. Moved P s (record s { mode = modes.Back outcomes.Fail }) (missing u t (goals_of s.stack s.stack.goals) (local_of s))) (sym c.in-Fail.is)
+    (gave P s (record s { mode = modes.Back outcomes.Fail }) outcomes.Fail tt refl)
 
 pub returns-in-Fail-clause-of : goal.returns-in-Fail-clause-of
-returns-in-Fail-clause-of c =
+returns-in-Fail-clause-of c P b =
     let s = c.args.self.now.machine in
-    found_of c.args.program.now s (record s { mode = modes.Back outcomes.Fail }) c.requires.seeks.0 c.requires.seeks.1 refl refl refl c.requires.of
+    found_of P s (record s { mode = modes.Back outcomes.Fail }) c.requires.seeks.0 c.requires.seeks.1 refl refl refl b
 
 pub returns-in_ok-error-in-Error-clause-of : goal.returns-in_ok-error-in-Error-clause-of
-returns-in_ok-error-in-Error-clause-of c =
+returns-in_ok-error-in-Error-clause-of c P b =
     let s = c.args.self.now.machine in
-    either_of c.args.program.now s c.raise.new.self _ c.raise.result c.requires.of (finds-last s.mode c.requires.seeks.0 c.requires.seeks.1) (on_ok_map c.raise.result (λ m. m.moved) c.raise.ensures.ok) c.raise.ensures.err
+    either_of P s c.raise.new.self _ c.raise.result b (finds-last s.mode c.requires.seeks.0 c.requires.seeks.1) (on_ok_map c.raise.result (λ m. m.moved) (c.raise.ensures.ok P)) (c.raise.ensures.err P)

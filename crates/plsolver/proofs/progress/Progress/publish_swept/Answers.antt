@@ -8,8 +8,7 @@ use Rattle.plsolver.proofs.Sweeping.{swept-done}
 use Rattle.plsolver.proofs.progress.Progress.publish_swept.Goals as goal
 
 pub returns-clause-ok : goal.returns-clause-ok
-returns-clause-ok c =
-    let P = c.args.program.now in
+returns-clause-ok c P b =
     let s = c.args.self.now.machine in
     let us = c.in_ok-updates.updates.items in
     on_ok_map c.publish.result
@@ -21,4 +20,4 @@ returns-clause-ok c =
         rest = swept-done P v s head w at ordered c.publish.new.self us (all ∙ sym (c.in_ok-updates.ensures head w at)) moved;
       },
     ))
-    (subst (λ l. OnOk c.publish.result (Moved P s c.publish.new.self (publish us (goals_of s.stack l) s.stack.env.count (local_of s)))) c.visited-rest.ensures.is c.publish.ensures.ok)
+    (subst (λ l. OnOk c.publish.result (Moved P s c.publish.new.self (publish us (goals_of s.stack l) s.stack.env.count (local_of s)))) c.visited-rest.ensures.is (c.publish.ensures.ok P))

@@ -8,17 +8,17 @@ use Rattle.plsolver.proofs.Runs.{goes_on}
 use Rattle.plsolver.proofs.progress.Progress.settle.Goals as goal
 
 pub returns-in_err-pause-clause-goes : goal.returns-in_err-pause-clause-goes
-returns-in_err-pause-clause-goes c = keeps-goes c.args.program.now c.args.self.now c.find.new.self c.requires.within c.find.ensures.keeps
+returns-in_err-pause-clause-goes c = keeps-goes c.args.program.now c.args.self.now c.find.new.self c.requires.within (c.find.ensures.keeps c.args.program.now c.requires.of)
 
 pub returns-in-Some-clause-goes : goal.returns-in-Some-clause-goes
-returns-in-Some-clause-goes c = keeps-goes c.args.program.now c.args.self.now c.find.new.self c.requires.within c.find.ensures.keeps
+returns-in-Some-clause-goes c = keeps-goes c.args.program.now c.args.self.now c.find.new.self c.requires.within (c.find.ensures.keeps c.args.program.now c.requires.of)
 
 pub returns-clause-goes : goal.returns-clause-goes
 returns-clause-goes c =
     let P = c.args.program.now in
     let s = c.args.self.now in
     let t = c.find.new.self in
-    goes_on P s t c.go_quietly.new.self c.find.ensures.keeps.limit (keeps-goes P s t c.requires.within c.find.ensures.keeps) c.go_quietly.ensures.goes
+    goes_on P s t c.go_quietly.new.self (c.find.ensures.keeps c.args.program.now c.requires.of).limit (keeps-goes P s t c.requires.within (c.find.ensures.keeps c.args.program.now c.requires.of)) c.go_quietly.ensures.goes
 
 pub returns-clause-walks : goal.returns-clause-walks
 returns-clause-walks c =
@@ -31,14 +31,14 @@ unfolding Settled
 returns-in-Some-clause-due c = rw c.in-Some.is at c.in_ok-pause.ensures.due
 
 pub returns-in-Some-clause-settles : goal.returns-in-Some-clause-settles
-returns-in-Some-clause-settles c = record { goes = returns-in-Some-clause-goes c; used = c.find.ensures.keeps.used; limit = c.find.ensures.keeps.limit; asks = c.in_ok-pause.ensures.asks }
+returns-in-Some-clause-settles c = record { goes = returns-in-Some-clause-goes c; used = (c.find.ensures.keeps c.args.program.now c.requires.of).used; limit = (c.find.ensures.keeps c.args.program.now c.requires.of).limit; asks = c.in_ok-pause.ensures.asks }
 
 pub returns-clause-settles : goal.returns-clause-settles
 returns-clause-settles c =
     let new = c.go_quietly.new.self in
     if_ok_all c.go_quietly.result record {
       goes = returns-clause-goes c;
-      used = c.go_quietly.ensures.used ∙ c.find.ensures.keeps.used;
-      limit = c.go_quietly.ensures.limit ∙ c.find.ensures.keeps.limit;
+      used = c.go_quietly.ensures.used ∙ (c.find.ensures.keeps c.args.program.now c.requires.of).used;
+      limit = c.go_quietly.ensures.limit ∙ (c.find.ensures.keeps c.args.program.now c.requires.of).limit;
       asks = subst (Onward 0 (activations c.args.self.now.machine)) (sym (plain_cases new.machine c.go_quietly.ensures.plain)) (returns-clause-walks c);
     }

@@ -16,7 +16,7 @@ returns-in_err-sweep_on-clause-walks c = onward_ends c.args.self.now.machine c.s
 
 pub returns-in-Asks-clause-due : goal.returns-in-Asks-clause-due
 unfolding PausesAt
-returns-in-Asks-clause-due c = rw c.in-Asks.is at c.in_ok-sweep_on.ensures.ok
+returns-in-Asks-clause-due c P b = rw c.in-Asks.is at c.in_ok-sweep_on.ensures.ok
 
 pub returns-in-Asks-clause-walks : goal.returns-in-Asks-clause-walks
 returns-in-Asks-clause-walks c = onward_ends c.args.self.now.machine c.sweep_on.new.self.machine.stack (ends_same (walks_in c.args.self.now.machine.stack) (walks_in c.sweep_on.new.self.machine.stack) (c.sweep_on.ensures.walks ∙ c.sweep.invariant.walks))
@@ -41,7 +41,7 @@ returns-in-Over-clause-asks c =
 
 pub sweep-preserved : goal.sweep-preserved
 sweep-preserved c =
-    let P = c.args.program.now in
+    let P = c.requires.of.0 in
     let s = c.args.self.now in
     let t = c.sweep.self in
     let new = c.sweep_on.new.self in

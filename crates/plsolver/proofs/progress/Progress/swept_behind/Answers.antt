@@ -13,11 +13,11 @@ use Rattle.plsolver.proofs.Sweeping.{found-keeps, found-none, step-of}
 use Rattle.plsolver.proofs.progress.Progress.swept_behind.Goals as goal
 
 pub returns-in-Some-clause-ok : goal.returns-in-Some-clause-ok
-returns-in-Some-clause-ok c = λ v head g cur ordered (w, at, view, spot) told.
+returns-in-Some-clause-ok c = λ P b v head g cur ordered (w, at, view, spot) told.
     let s = c.args.self.now in
     let a = c.sweeping-at.result in
     let is = subst (λ (k : View). c.args.found ≡ next_like_of (first_key (value s.machine.stack.env.heap head)) cur (living (v k.place) (indicator (value s.machine.stack.env.heap head)))) (sym view) told in
-    found-keeps s a.head a.view a.spot c.args.found c.in_ok-step.step c.sweeping-at.ensures c.in_ok-step.ensures head w cur at spot v ordered is c.args.program.now c.in-Some.spot c.sweep_at.new.self (sym c.sweep_behind.ensures ∙ c.in-Some.is) (c.sweep_at.ensures head w at)
+    found-keeps s a.head a.view a.spot c.args.found c.in_ok-step.step c.sweeping-at.ensures c.in_ok-step.ensures head w cur at spot v ordered is P c.in-Some.spot c.sweep_at.new.self (sym c.sweep_behind.ensures ∙ c.in-Some.is) (c.sweep_at.ensures head w at)
 
 pub returns-in-Some-clause-asked : goal.returns-in-Some-clause-asked
 returns-in-Some-clause-asked c = λ v head w cur ordered at spot told.
@@ -29,14 +29,14 @@ returns-in-Some-clause-asked c = λ v head w cur ordered at spot told.
     (ap (λ (n : Progress). n.machine.mode) to) (ap (λ (n : Progress). value n.machine.stack.env.heap head) to) (ap (λ (n : Progress). walks_in n.machine.stack) to)
 
 pub returns-in-None-clause-ok : goal.returns-in-None-clause-ok
-returns-in-None-clause-ok c =
+returns-in-None-clause-ok c P b =
     let s = c.args.self.now in
     let a = c.sweeping-at.result in
     on_ok_map c.publish_swept.result
     (λ made v head g cur ordered (w, at, view, spot) told.
     let is = subst (λ (k : View). c.args.found ≡ next_like_of (first_key (value s.machine.stack.env.heap head)) cur (living (v k.place) (indicator (value s.machine.stack.env.heap head)))) (sym view) told in
     (made head w at).1 v ordered (found-none s a.head a.view a.spot c.args.found c.in_ok-step.step c.sweeping-at.ensures c.in_ok-step.ensures head w cur at spot v ordered is (sym c.sweep_behind.ensures ∙ c.in-None.is)))
-    c.publish_swept.ensures.ok
+    (c.publish_swept.ensures.ok P b)
 
 pub returns-in-None-clause-asked : goal.returns-in-None-clause-asked
 returns-in-None-clause-asked c =
@@ -46,4 +46,4 @@ returns-in-None-clause-asked c =
     (λ made v head w cur ordered at spot told.
     let steps = step-of s a.head a.view a.spot c.args.found c.in_ok-step.step c.sweeping-at.ensures c.in_ok-step.ensures head w cur at spot in
     sweep-ends v head w s.machine c.publish_swept.new.self.machine cur spot (ordered.ordered w.view.place) c.args.found (sym told) c.in_ok-step.step steps.leads (made head w at).0 c.publish_swept.ensures.walks)
-    c.publish_swept.ensures.ok
+    (c.publish_swept.ensures.ok c.requires.of.0 c.requires.of.1)

@@ -5,9 +5,9 @@ use Rattle.plsolver.proofs.Taking.{begins-on}
 use Rattle.plsolver.proofs.progress.Progress.take_view.Goals as goal
 
 pub returns-in-Begin-clause-ok : goal.returns-in-Begin-clause-ok
-returns-in-Begin-clause-ok c =
+returns-in-Begin-clause-ok c P b =
     let s = c.args.self.now in
-    on_ok_map c.begin_at.result (begins-on c.args.program.now s (record s { machine = c.begin_at.new.self }) c.in-Begin.kind c.in-Begin.goal c.args.g (c.in-Ask.is ∙ ap modes.Ask c.in-Begin.is)) c.begin_at.ensures.ok
+    on_ok_map c.begin_at.result (begins-on P s (record s { machine = c.begin_at.new.self }) c.in-Begin.kind c.in-Begin.goal c.args.g (c.in-Ask.is ∙ ap modes.Ask c.in-Begin.is)) (c.begin_at.ensures.ok P)
 
 pub returns-in-Begin-clause-seeks : goal.returns-in-Begin-clause-seeks
-returns-in-Begin-clause-seeks c = on_ok_map c.begin_at.result (λ begins. seeks-none c.begin_at.new.self.mode begins.plain) c.begin_at.ensures.ok
+returns-in-Begin-clause-seeks c = on_ok_map c.begin_at.result (λ begins. seeks-none c.begin_at.new.self.mode begins.plain) (c.begin_at.ensures.ok c.requires.of.0)

@@ -36,8 +36,8 @@ loop-step-preserved c =
     let first = rw c.deref.ensures.value at c.in-Some-first_link.ensures.some in
     let some : c.loop-step.list.rest ≡ 0 → ⊥ = λ none. omega (arith, none, first.0) in
     rw (← c.self.view_is) (record {
-      there = run-there (inside c.self.inside) c.self.invariant.0 c.loop-step.list there c.in-Some-first_link.link.now some first.1 c.in-Run.run' c.in-Run.is;
-      same = run-goals-there (inside c.self.inside) c.self.invariant.0 c.loop-step.list there c.in-Some-first_link.link.now some first.1 c.in-Run.run' c.in-Run.is none ∙ same;
+      there = run-there (inside c.self.inside) c.self.invariant.0 c.loop-step.list there c.in-Some-first_link.link.now some first.1 c.in-Clause.run' c.in-Clause.is;
+      same = run-goals-there (inside c.self.inside) c.self.invariant.0 c.loop-step.list there c.in-Some-first_link.link.now some first.1 c.in-Clause.run' c.in-Clause.is none ∙ same;
     })
 
 pub returns-in-Goal : goal.returns-in-Goal

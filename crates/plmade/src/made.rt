@@ -1,5 +1,7 @@
 //! Goals that are put into an environment, and the texts of values.
 ghost use Rattle.std.specs.Prelude.{◌≡◌, IfOk, OnOk};
+ghost use Rattle.plterm.specs.Reading.{IsName};
+ghost use Rattle.plterm.specs.Variables.{AllBelow};
 ghost use Rattle.plcells.specs.Store.{AreValues, IsValue};
 ghost use Rattle.plcells.specs.declared.cell.Cell.{Cell as OfCell};
 ghost use Rattle.plgoals.specs.declared.extend.Extended.TheVariants.{Is};
@@ -12,6 +14,7 @@ use plgoals::callable::arguments_of;
 use plgoals::extend::Extended;
 use plload::goal::read_goal;
 use plops::table::OpTable;
+use plterm::name::Name;
 use plterm::term::Term;
 use plwrite::style::Style;
 use plwrite::write::write_term;
@@ -20,12 +23,12 @@ use std::string::String;
 use std::test::Fail;
 
 /// An environment with nothing in it.
-pub(crate) fn empty(alloc: Global) -> Environment {
+pub fn empty(alloc: Global) -> Environment {
     Environment::new(alloc, Names::new(alloc))
 }
 
 /// Puts a term, its variables new: its value.
-pub(crate) fn put(env: &mut Environment, alloc: Global, term: &Term) -> Result<Cell, AllocError>
+pub fn put(env: &mut Environment, alloc: Global, term: &Term) -> Result<Cell, AllocError>
     ensures { IfOk result (λ v. IsValue env.new.heap v) }
 {
     let copy = term.copy(alloc, 0)?;
@@ -37,7 +40,7 @@ pub(crate) fn put(env: &mut Environment, alloc: Global, term: &Term) -> Result<C
 }
 
 /// Puts the goal of a text: its value.
-pub(crate) fn put_text(env: &mut Environment, alloc: Global, text: &str) -> Result<Cell, Fail>
+pub fn put_text(env: &mut Environment, alloc: Global, text: &str) -> Result<Cell, Fail>
     ensures { IfOk result (λ v. IsValue env.new.heap v) }
 {
     let Some(goal) = read_goal(alloc, text)? else {
@@ -48,11 +51,7 @@ pub(crate) fn put_text(env: &mut Environment, alloc: Global, text: &str) -> Resu
 }
 
 /// Puts the goal of a text: the values of its arguments.
-pub(crate) fn put_arguments(
-    env: &mut Environment,
-    alloc: Global,
-    text: &str,
-) -> Result<Vec<Cell>, Fail>
+pub fn put_arguments(env: &mut Environment, alloc: Global, text: &str) -> Result<Vec<Cell>, Fail>
     ensures { IfOk result (λ vs. AreValues env.new.heap vs.items) }
 {
     let goal = put_text(env, alloc, text)?;
@@ -61,8 +60,33 @@ pub(crate) fn put_arguments(
     Ok(args)
 }
 
+/// The name of a text.
+pub fn name(alloc: Global, text: &str) -> Result<Name, Fail>
+    ensures { IfOk result (λ name. IsName name) }
+{
+    let name = Name::new(alloc, text)?;
+    if name.len() > 65535 {
+        return Err("too long for a name".into());
+    }
+    Ok(name)
+}
+
+/// The term of a goal of two variables, which are 0 and 1.
+pub fn two_variables(alloc: Global, text: &str) -> Result<Term, Fail>
+    ensures { IfOk result (λ t. AllBelow 2 t) }
+{
+    let Some(goal) = read_goal(alloc, text)? else {
+        return Err("no goal".into());
+    };
+    let copy = goal.copy(alloc, 0)?;
+    if goal.variables(alloc)?.len() != 2 {
+        return Err("not two variables".into());
+    }
+    Ok(copy)
+}
+
 /// The text of a value's term, quoted.
-pub(crate) fn shown(alloc: Global, heap: &Heap, v: Cell) -> Result<String, AllocError>
+pub fn shown(alloc: Global, heap: &Heap, v: Cell) -> Result<String, AllocError>
     requires { IsValue heap.now v }
 {
     let term = heap.take(alloc, v)?;
@@ -72,7 +96,7 @@ pub(crate) fn shown(alloc: Global, heap: &Heap, v: Cell) -> Result<String, Alloc
 }
 
 /// The text of what was made of a term and further arguments, or why nothing was.
-pub(crate) fn told(alloc: Global, heap: &Heap, made: Extended) -> Result<String, Fail>
+pub fn told(alloc: Global, heap: &Heap, made: Extended) -> Result<String, Fail>
     requires { (v : OfCell) → made ≡ Is v → IsValue heap.now v }
 {
     match made {

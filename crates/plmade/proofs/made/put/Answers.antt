@@ -1,7 +1,7 @@
 use Rattle.std.proofs.Common.{◌≡◌, ap, length, arith}
 use Rattle.plterm.specs.Variables.{variables}
 use Rattle.plterm.proofs.Belows.{AllBelow-copied_0}
-use Rattle.plheaptests.proofs.made.put.Goals as goal
+use Rattle.plmade.proofs.made.put.Goals as goal
 
 pub put_term-requires : goal.put_term-requires
 put_term-requires c =

@@ -29,7 +29,7 @@ const PLACES: [(Key, &str, &str); 5] = [
 ];
 
 /// The program of a text.
-fn program(alloc: Global, text: &str) -> Result<Program, Fail> {
+pub(crate) fn program(alloc: Global, text: &str) -> Result<Program, Fail> {
     match load(alloc, text.as_bytes()) {
         Ok(program) => Ok(program),
         Err(_) => Err("refused".into()),
@@ -55,7 +55,7 @@ fn left(alloc: Global, procedure: &Procedure, key: Key) -> Result<String, Fail> 
 }
 
 /// The code of a text's program.
-fn code_of(alloc: Global, text: &str) -> Result<ProgramCode, Fail> {
+pub(crate) fn code_of(alloc: Global, text: &str) -> Result<ProgramCode, Fail> {
     let program = program(alloc, text)?;
     Ok(ProgramCode::new(alloc, &program)?)
 }
