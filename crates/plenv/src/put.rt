@@ -13,7 +13,7 @@ ghost use Rattle.plenv.specs.Changes.{NoneFreed, Puts, PutsAll, Stays};
 ghost use Rattle.plenv.specs.Blocks.{block_at, AreBuilt, HasFree, PutsBlock};
 ghost use Rattle.plenv.specs.Rows.{row_at, tree_at, CoversAll};
 
-use crate::block::{Gathered, BlocksAt, gather};
+use crate::block::{BlocksAt, Gathered, gather};
 use crate::env::{Environment, known, note};
 use crate::slot::{Noted, Row, Slot};
 use plcells::cell::Cell;

@@ -9,7 +9,7 @@ use crate::equation::{part_equation, split_equation};
 use crate::group::next_group;
 use crate::part::{first_part, part_after};
 use crate::split::first_split;
-use crate::turn::{Part, Split, Remaining};
+use crate::turn::{Part, Remaining, Split};
 use crate::wanted::{Sought, wanted};
 use plcells::cell::Cell;
 use plcells::equation::Equation;

@@ -11,7 +11,7 @@ use crate::characters::after_mark;
 use crate::error::{ClauseTokens, LexError};
 use crate::item::item_at;
 use crate::layout::{Gap, gap_at};
-use crate::token::{Fault, Scanned, Kind};
+use crate::token::{Fault, Kind, Scanned};
 use std::alloc::Global;
 
 fn item_behind(text: &[u8], place: usize) -> Scanned

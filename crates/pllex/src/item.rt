@@ -9,7 +9,7 @@ use crate::digits::is_digit;
 use crate::number::number;
 use crate::quoted::{Quote, Quoted, quoted_end};
 use crate::runs::{is_layout, run_end};
-use crate::token::{Base, Class, Fault, Scanned, Kind, Token};
+use crate::token::{Base, Class, Fault, Kind, Scanned, Token};
 use plterm::characters::is_symbol;
 
 fn named(kind: Kind, start: usize, end: usize) -> Scanned

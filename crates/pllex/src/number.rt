@@ -13,7 +13,7 @@ use crate::digits::{is_digit, value_of};
 use crate::escape::{Coded, escape_code};
 use crate::quoted::is_control;
 use crate::runs::run_end;
-use crate::token::{Base, Class, Fault, Scanned, Kind, Token};
+use crate::token::{Base, Class, Fault, Kind, Scanned, Token};
 
 #[tactic(auto, using(crate::proofs::RunEnds::drop_here, crate::proofs::RunEnds::drop_over))]
 fn begins_with_digit(text: &[u8], place: usize, base: Base) -> bool

@@ -105,7 +105,13 @@ fn newline_turn(start: usize, escape: Escape) -> QuotedStep
     }
 }
 
-pub fn quoted_turn(text: &[u8], place: usize, quote: Quote, start: usize, mode: Within) -> QuotedStep
+pub fn quoted_turn(
+    text: &[u8],
+    place: usize,
+    quote: Quote,
+    start: usize,
+    mode: Within,
+) -> QuotedStep
     requires { place < length text.now }
     ensures value { result ≡ quoted_turn quote start mode place (slice_index text.now place) (drop (place + 1) text.now) }
     ensures few { KeepsFew result }

@@ -18,7 +18,12 @@ fn push_character(value: &mut Vec<u8>, c: char) -> Result<(), AllocError>
 }
 
 /// Adds what a byte of a quoted item adds to its value.
-fn push_turn(value: &mut Vec<u8>, text: &[u8], place: usize, turn: QuotedStep) -> Result<(), AllocError>
+fn push_turn(
+    value: &mut Vec<u8>,
+    text: &[u8],
+    place: usize,
+    turn: QuotedStep,
+) -> Result<(), AllocError>
     requires place { place < length text.now }
     requires within { KeepsWithin place (length text.now) turn }
     ensures { OnOk result (value.new.items ≡ value.old.items ++ value_step (drop place text.now) turn) }

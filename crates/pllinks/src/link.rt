@@ -2,7 +2,7 @@
 ghost use Rattle.std.specs.Prelude.{◌≡◌, ◌+◌, ◌-◌, ◌<◌, ◌≤◌, [], ◌∷◌, ◌++◌, length, IfOk, IfSome, IfNone, OnOk, OnErr};
 ghost use Rattle.pllinks.specs.Links.{IsDone, Numbers, alone, link_at, slots_in, slots_at, link_to, list_at};
 
-use crate::item::{Portion, ClauseGoals};
+use crate::item::{ClauseGoals, Portion};
 use crate::list::ListId;
 use std::alloc::AllocError;
 

@@ -21,7 +21,7 @@ use crate::running::Running;
 use planswers::error::type_error;
 use planswers::list::may_be_list;
 use plcells::cell::Cell;
-use pllinks::item::{Portion, MarkerKind};
+use pllinks::item::{MarkerKind, Portion};
 use pllinks::level::Level;
 use pllinks::link::Continuation;
 use plstack::frame::{Around, Handler, Handling};

@@ -3,7 +3,7 @@ ghost use Rattle.std.specs.Prelude.{◌≡◌, ◌++◌, IfOk};
 ghost use Rattle.plstack.specs.State.{goals_of, IsList};
 ghost use Rattle.plmachine.specs.Lists.{at_level, branch_at, elements_of, failing, Holds, IsPart, Lengthened};
 
-use pllinks::item::{Portion, ClauseGoals};
+use pllinks::item::{ClauseGoals, Portion};
 use pllinks::level::Level;
 use pllinks::link::Continuation;
 use plstack::stack::Stack;
@@ -45,7 +45,11 @@ pub fn branch(run: &ClauseGoals, place: u32) -> Portion
 }
 
 /// A new list: an item before a list that is there.
-pub fn before(stack: &mut Stack, item: Portion, rest: Continuation) -> Result<Continuation, AllocError>
+pub fn before(
+    stack: &mut Stack,
+    item: Portion,
+    rest: Continuation,
+) -> Result<Continuation, AllocError>
     requires item { IsPart stack.old item }
     requires rest { IsList stack.old rest }
     ensures ok { IfOk result (λ l. Holds stack.new l (elements_of stack.old item ++ goals_of stack.old rest)) }

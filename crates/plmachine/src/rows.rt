@@ -22,7 +22,7 @@ use crate::machine::{Machine, Mode, Outcome, Question};
 use crate::predicate::Predicate;
 use plcells::cell::Cell;
 use plcells::heap::Heap;
-use pllinks::item::{Portion, MarkerKind};
+use pllinks::item::{MarkerKind, Portion};
 use pllinks::level::Level;
 use pllinks::link::Continuation;
 use plstack::frame::Around;
@@ -119,7 +119,12 @@ impl Machine {
 
     /// A conjunction.
     #[inline(never)]
-    pub fn both(&mut self, first: Portion, second: Portion, rest: Continuation) -> Result<(), AllocError>
+    pub fn both(
+        &mut self,
+        first: Portion,
+        second: Portion,
+        rest: Continuation,
+    ) -> Result<(), AllocError>
         requires first { IsPart self.old.stack first }
         requires second { IsPart self.old.stack second }
         requires rest { IsList self.old.stack rest }

@@ -25,7 +25,7 @@ use crate::predicate::Predicate;
 use crate::rows::is_variable;
 use plcells::cell::Cell;
 use plgoals::extend::Extended;
-use pllinks::item::{Portion, MarkerKind};
+use pllinks::item::{MarkerKind, Portion};
 use pllinks::level::Level;
 use pllinks::link::Continuation;
 use plstack::frame::{Around, Catcher, Handler, Handling};

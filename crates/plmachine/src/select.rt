@@ -20,7 +20,7 @@ use crate::finding::Finding;
 use crate::machine::{Lookup, Machine, Mode, Outcome};
 use plcells::cell::Cell;
 use plgoals::form::{Form, Procedure};
-use pllinks::item::{Portion, ClauseGoals};
+use pllinks::item::{ClauseGoals, Portion};
 use pllinks::level::Level;
 use pllinks::link::Continuation;
 use plprogram::program::Program;
@@ -63,8 +63,12 @@ impl Machine {
                 self.give(Outcome::Fail);
                 Ok(())
             }
-            Form::Both(a, b) => { self.both(Portion::Goal(level, a), Portion::Goal(level, b), rest) }
-            Form::Either(a, b) => { self.either(Portion::Goal(level, a), Portion::Goal(level, b), rest) }
+            Form::Both(a, b) => {
+                self.both(Portion::Goal(level, a), Portion::Goal(level, b), rest)
+            }
+            Form::Either(a, b) => {
+                self.either(Portion::Goal(level, a), Portion::Goal(level, b), rest)
+            }
             Form::IfThen(condition, then) => {
                 let condition = Portion::Goal(level, condition);
                 self.then(level, condition, Portion::Goal(level, then), rest)

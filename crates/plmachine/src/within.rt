@@ -19,7 +19,7 @@ use crate::machine::{Machine, Mode, Outcome, Question};
 use crate::predicate::Predicate;
 use crate::running::Ready;
 use plcells::cell::Cell;
-use pllinks::item::{Portion, MarkerKind};
+use pllinks::item::{MarkerKind, Portion};
 use pllinks::level::Level;
 use pllinks::link::Continuation;
 use plterm::term::Term;

@@ -1,6 +1,6 @@
 //! Goal lists (pllinks).
 use plcells::cell::Cell;
-use pllinks::item::{Portion, MarkerKind, ClauseGoals};
+use pllinks::item::{ClauseGoals, MarkerKind, Portion};
 use pllinks::level::Level;
 use pllinks::link::{Continuation, number_of, push_link, slots_of};
 use pllinks::list::ListId;

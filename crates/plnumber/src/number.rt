@@ -6,7 +6,7 @@ ghost use Rattle.plnumber.specs.Numbers.{integer_value, last_integer, unsigned, 
 use pllex::characters::begins_with;
 use pllex::item::item_at;
 use pllex::layout::{Gap, gap_at};
-use pllex::token::{Scanned, Kind};
+use pllex::token::{Kind, Scanned};
 use plread::looks::negative;
 
 /// The value of an integer token.

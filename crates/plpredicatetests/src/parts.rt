@@ -13,7 +13,7 @@ use plgenerator::equation::{part_equation, split_equation, together};
 use plgenerator::generator::next;
 use plgenerator::part::all_parts;
 use plgenerator::split::all_splits;
-use plgenerator::turn::{Groups, Part, Split, Remaining};
+use plgenerator::turn::{Groups, Part, Remaining, Split};
 use plgenerator::wanted::Sought;
 use plterm::term::Term;
 use std::alloc::Global;

@@ -5,7 +5,7 @@ ghost use Rattle.plread.specs.Reading.{Spells};
 ghost use Rattle.plread.specs.Looks.{view};
 ghost use Rattle.plread.specs.Answers.{Answers};
 
-use crate::reader::{Reader, ReadStep};
+use crate::reader::{ReadStep, Reader};
 use crate::token::Token;
 use crate::words::Words;
 use plops::table::OpTable;

@@ -55,7 +55,12 @@ impl<'a> Reader<'a> {
         }
     }
 
-    fn open(&mut self, words: &Words, frame: Frame, rest: &'a [Token]) -> Result<ReadStep, AllocError>
+    fn open(
+        &mut self,
+        words: &Words,
+        frame: Frame,
+        rest: &'a [Token],
+    ) -> Result<ReadStep, AllocError>
         ensures { Gives words.now result self.old self.new
             (λ room stack trees _. opened room (level_view words.now frame ∷ stack) trees (view words.now rest.now)) }
     {
@@ -96,7 +101,12 @@ impl<'a> Reader<'a> {
     }
 
     /// An operand is wanted inside a level that takes the place of one that was open.
-    fn go_in(&mut self, words: &Words, frame: Frame, rest: &'a [Token]) -> Result<ReadStep, AllocError>
+    fn go_in(
+        &mut self,
+        words: &Words,
+        frame: Frame,
+        rest: &'a [Token],
+    ) -> Result<ReadStep, AllocError>
         requires { self.old.room + 1 + vec_len self.old.stack < 2 ^ 64 }
         ensures { Gives words.now result self.old self.new
             (λ room stack trees _. goes_in room (level_view words.now frame ∷ stack) trees (view words.now rest.now)) }
@@ -117,7 +127,12 @@ impl<'a> Reader<'a> {
     ghost use Rattle.plread.specs.Reading.{start_of, next_of};
     ghost use Rattle.plread.specs.Views.{stack_view, Stepped, state_view, Gives};
 
-    fn stand(&mut self, words: &Words, leaf: Leaf, rest: &'a [Token]) -> Result<ReadStep, AllocError>
+    fn stand(
+        &mut self,
+        words: &Words,
+        leaf: Leaf,
+        rest: &'a [Token],
+    ) -> Result<ReadStep, AllocError>
         ensures { Gives words.now result self.old self.new
             (λ room stack trees _. complete room stack (leaf_tree words.now leaf ∷ trees) 0 (view words.now rest.now)) }
     {

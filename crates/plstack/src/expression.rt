@@ -32,7 +32,12 @@ impl Stack {
     }
 
     /// What the term of a node of a clause, whose slots are those of a run, comes to as an expression, or its error (ISO/IEC 13211-1 7.9, 9.1.4).
-    pub fn eval_node(&self, alloc: Global, run: &ClauseGoals, node: u32) -> Result<Evaluated, AllocError>
+    pub fn eval_node(
+        &self,
+        alloc: Global,
+        run: &ClauseGoals,
+        node: u32,
+    ) -> Result<Evaluated, AllocError>
         requires { (t : Tree) × IsArgument self.now run.now node t }
         ensures { (t : Tree) → IsArgument self.now run.now node t → IfOk result (λ found. found ≡ eval (bind (over self.now.env run.now.base) t)) }
     {
@@ -42,7 +47,12 @@ impl Stack {
 
     /// Unifies the term of a node of a clause, whose slots are those of a run, with an integer's value: whether they have a unifier. Where they have
     /// none, or memory gives out, all stands for what it did. The heap changes only where a variable that stands there is bound.
-    pub fn unify_number(&mut self, run: &ClauseGoals, node: u32, v: Cell) -> Result<bool, AllocError>
+    pub fn unify_number(
+        &mut self,
+        run: &ClauseGoals,
+        node: u32,
+        v: Cell,
+    ) -> Result<bool, AllocError>
         requires node { (t : Tree) × IsArgument self.old run.now node t }
         requires value { IsValue self.old.env.heap v }
         requires number { (i : ℤ) × (value self.old.env.heap v ≡ int i) }

@@ -7,7 +7,7 @@ ghost use Rattle.plstack.specs.First.{Begins, IsFirst, IsShort, IsStep};
 use crate::stack::Stack;
 use plcells::cell::Cell;
 use plcode::op::{Op, Step};
-use pllinks::item::{Portion, MarkerKind, ClauseGoals};
+use pllinks::item::{ClauseGoals, MarkerKind, Portion};
 use pllinks::level::Level;
 use pllinks::link::{Continuation, first_link};
 

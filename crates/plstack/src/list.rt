@@ -12,7 +12,7 @@ ghost use Rattle.plstack.specs.Levels.{kinds, levels_of, AreNamed, FitsIn};
 ghost use Rattle.plstack.specs.Linking.{LinksItem};
 
 use crate::stack::Stack;
-use pllinks::item::{Portion, ClauseGoals};
+use pllinks::item::{ClauseGoals, Portion};
 use pllinks::level::Level;
 use pllinks::link::{Continuation, Link, first_link, number_of, push_link};
 use pllinks::list::ListId;
@@ -43,7 +43,11 @@ impl Stack {
     }
 
     /// A new list: goals of a clause before a list that is there.
-    pub fn before(&mut self, run: ClauseGoals, rest: Continuation) -> Result<Continuation, AllocError>
+    pub fn before(
+        &mut self,
+        run: ClauseGoals,
+        rest: Continuation,
+    ) -> Result<Continuation, AllocError>
         requires inside { IsItem (goals_in self.old) self.old.env.heap (length self.old.env.slots) (RunOf run) }
         requires rest { IsList self.old rest }
         ensures ok { IfOk result (λ l. AddsList self.old self.new l (elements (goals_in self.old) self.old.env (RunOf run) ++ goals_of self.old rest)) }

@@ -6,7 +6,7 @@ ghost use Rattle.plwrite.specs.Names.{name_text, quoted_unless};
 ghost use Rattle.plwrite.specs.Words.{Word, first_byte, last_byte, is_letter, is_held_off, touches, finished, Puts, Adds, sign_text, sign, variable, integer, plain, digits_unless_zero, letter_text, name, functor, prefix, prefix_role, operator, text_of};
 
 use crate::names::{is_bare, is_empty_brackets, quoted};
-use crate::place::{TermPlace, Position};
+use crate::place::{Position, TermPlace};
 use crate::style::Style;
 use crate::task::Notation;
 use itoa::Buffer;

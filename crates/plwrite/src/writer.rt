@@ -3,7 +3,7 @@ ghost use Rattle.std.specs.Prelude.{◌≡◌};
 ghost use Rattle.plwrite.specs.Nodes.{node_int};
 
 use crate::form::{Alone, Pair};
-use crate::place::{TermPlace, Position};
+use crate::place::{Position, TermPlace};
 use crate::task::{Notation, Task};
 use crate::text::{Sign, Text};
 use plops::operator::{Infix, Operator, Postfix, Prefix};

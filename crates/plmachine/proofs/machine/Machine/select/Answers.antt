@@ -45,7 +45,7 @@ unfolding row
 returns-in-Halt-clause-ok c t sel =
     let s = c.args.self.now in
     let P = c.args.program.now in
-    selected P s c.halt.new.self c.args.form c.args.source t c.args.level (depth_of s) (goals_of s.stack c.args.rest) s.stack.env.count (local_of s) _ sel (ap (shown_form s.stack.env.heap (indicator t) s.args.items) c.in-Halt.is) c.halt.ensures.moved
+    selected P s c.halt.new.self c.args.form c.args.source t c.args.level (depth_of s) (goals_of s.stack c.args.rest) s.stack.env.count (local_of s) _ sel (ap (shown_form s.stack.env.heap (indicator t) s.args.items) c.in-Halt.is) (c.halt.ensures c.args.program.now).moved
 
 pub returns-in-Both-clause-ok : goal.returns-in-Both-clause-ok
 unfolding row
@@ -75,7 +75,7 @@ returns-in-IfThen-clause-ok c t sel =
     on_ok_map c.then.result
     (λ moved. selected P s c.then.new.self c.args.form c.args.source t c.args.level (depth_of s) (goals_of s.stack c.args.rest) s.stack.env.count (local_of s) _ sel (ap (shown_form s.stack.env.heap (indicator t) s.args.items) c.in-IfThen.is)
     (moved-views P s c.then.new.self _ _ (λ v. then-is P (below_in v s) c.args.level t (depth_of s) (goals_of s.stack c.args.rest) s.stack.env.count (local_of s) (value s.stack.env.heap c.in-IfThen.condition) (value s.stack.env.heap c.in-IfThen.then) (atom (codes "fail"))) moved))
-    (c.then.ensures.ok c.args.program.now c.requires.begun)
+    (c.then.ensures.ok c.args.program.now sel.begun)
 
 pub returns-in-IfThenElse-clause-ok : goal.returns-in-IfThenElse-clause-ok
 unfolding row
@@ -183,14 +183,14 @@ unfolding row
 returns-in-BuiltIn-clause-ok c t sel =
     let s = c.args.self.now in
     let P = c.args.program.now in
-    on_ok_map c.built_in.result (λ moved. selected P s c.built_in.new.self c.args.form c.args.source t c.args.level (depth_of s) (goals_of s.stack c.args.rest) s.stack.env.count (local_of s) _ sel (ap (shown_form s.stack.env.heap (indicator t) s.args.items) c.in-BuiltIn.is) moved.moved) ((c.built_in.ensures.ok c.args.program.now c.requires.begun) t sel.stands)
+    on_ok_map c.built_in.result (λ moved. selected P s c.built_in.new.self c.args.form c.args.source t c.args.level (depth_of s) (goals_of s.stack c.args.rest) s.stack.env.count (local_of s) _ sel (ap (shown_form s.stack.env.heap (indicator t) s.args.items) c.in-BuiltIn.is) moved.moved) ((c.built_in.ensures.ok c.args.program.now sel.begun) t sel.stands)
 
 pub returns-in-Call-clause-ok : goal.returns-in-Call-clause-ok
 unfolding row
 returns-in-Call-clause-ok c t sel =
     let s = c.args.self.now in
     let P = c.args.program.now in
-    on_ok_map c.call.result (selected P s c.call.new.self c.args.form c.args.source t c.args.level (depth_of s) (goals_of s.stack c.args.rest) s.stack.env.count (local_of s) _ sel (ap (shown_form s.stack.env.heap (indicator t) s.args.items) c.in-Call.is)) ((c.call.ensures.ok c.args.program.now c.requires.begun) _ t sel.stands (subst (λ f. IsCall P s f t) c.in-Call.is sel.call))
+    on_ok_map c.call.result (selected P s c.call.new.self c.args.form c.args.source t c.args.level (depth_of s) (goals_of s.stack c.args.rest) s.stack.env.count (local_of s) _ sel (ap (shown_form s.stack.env.heap (indicator t) s.args.items) c.in-Call.is)) ((c.call.ensures.ok c.args.program.now sel.begun) _ t sel.stands (subst (λ f. IsCall P s f t) c.in-Call.is sel.call))
 
 pub returns-in-CallWith-clause-ok : goal.returns-in-CallWith-clause-ok
 unfolding row

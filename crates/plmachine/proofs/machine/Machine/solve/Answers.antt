@@ -64,12 +64,14 @@ returns-in-Some-static_by-clause-ok c u stands =
     (λ moved. row-with P s t c.resolve.new.self grown c.number.ensures.frame u k _ _ goals
     (selected P t c.resolve.new.self _ c.args.source u k (depth_of t) (goals_of t.stack c.args.rest) t.stack.env.count (local_of t) _ sel refl
     (moved-views P t c.resolve.new.self _ _ (λ v. user-some (below_in v t) (clauses_for P (indicator u)) (depth_of t) u (goals_of t.stack c.args.rest) t.stack.env.count (local_of t) i.static.some) moved)))
-    ((c.resolve.ensures.ok c.args.program.now c.requires.begun) (indicator u) u i)
+    ((c.resolve.ensures.ok P begun) (indicator u) u i)
 
 pub returns-in-Some-static_by-clause-err : goal.returns-in-Some-static_by-clause-err
 returns-in-Some-static_by-clause-err c =
     let s = c.args.self.now in
-    on_err_map c.resolve.result (stays-trans c.args.program.now s c.number.new.self c.resolve.new.self (grown-with c.args.program.now s c.number.new.self c.number.ensures.grown c.number.ensures.frame)) (c.resolve.ensures.err c.args.program.now c.requires.begun)
+    let t = c.number.new.self in
+    let begun : IsBegun c.args.program.now t = subst (λ (b : Basis). IsBegun c.args.program.now (record t { stack = record t.stack { basis = b } })) (sym c.number.ensures.grown.extends.basis) c.requires.begun in
+    on_err_map c.resolve.result (stays-trans c.args.program.now s c.number.new.self c.resolve.new.self (grown-with c.args.program.now s c.number.new.self c.number.ensures.grown c.number.ensures.frame)) (c.resolve.ensures.err c.args.program.now begun)
 
 pub returns-clause-ok : goal.returns-clause-ok
 returns-clause-ok c u stands =
