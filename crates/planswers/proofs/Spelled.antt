@@ -8,7 +8,7 @@ use Rattle.std.proofs.lemmas.Str.{encodes-append}
 use Rattle.plterm.specs.Tree.{Tree}
 use Rattle.plnames.specs.declared.kind.Spelling.{Spelling}
 use Rattle.plbuiltin.specs.Lists.{Elements, Empty, Unbound, Other, ends, before}
-use Rattle.plbuiltin.specs.Errors.{instantiation_error, type_error}
+use Rattle.plerror.specs.Errors.{instantiation_error, type_error}
 use Rattle.plbuiltin.specs.Texts.{Found, behind, as_text, character_of, characters_of}
 
 -- what the elements of a list spell

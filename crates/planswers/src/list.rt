@@ -5,9 +5,10 @@ ghost use Rattle.plbuiltin.specs.Lists.{elements_of as elements_in_term, ends, m
 ghost use Rattle.std.specs.List.{list_any};
 ghost use Rattle.planswers.specs.Lists.{tail_as, tail_at, IsCell, AreThere, checked_as};
 
-use crate::error::{instantiation_error, type_error};
+use crate::error::type_error;
 use plcells::cell::Cell;
 use plcells::heap::Heap;
+use plerror::error::instantiation_error;
 use plorder::shape::{Shape, shape_of};
 use plterm::term::Term;
 use std::alloc::{AllocError, Global};

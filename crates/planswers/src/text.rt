@@ -6,10 +6,11 @@ ghost use Rattle.plcells.specs.Store.{value, IsValue};
 ghost use Rattle.plnames.specs.declared.kind.Spelling.TheVariants.{Codes};
 ghost use Rattle.plbuiltin.specs.Texts.{atom_of, character_of as character_in, text_in as text_in_term};
 
-use crate::error::{atom, instantiation_error, representation_error, type_error};
+use crate::error::type_error;
 use crate::list::{Tail, cell_of, tail_of};
 use plcells::cell::Cell;
 use plcells::heap::Heap;
+use plerror::error::{atom, instantiation_error, representation_error};
 use plnames::kind::Spelling;
 use plorder::shape::{Shape, shape_of};
 use plterm::term::{NAME_LENGTH, Term};

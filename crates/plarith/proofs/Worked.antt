@@ -4,7 +4,8 @@ use Rattle.std.specs.Prelude.{codes}
 use Rattle.plterm.specs.Tree.{Tree, var, int, atom, compound, none, more}
 use Rattle.plarith.specs.declared.error.ArithError.TheVariants.{Unbound, NotEvaluable, NotFloat, ZeroDivisor, Undefined, IntOverflow}
 use Rattle.plarith.specs.Functors.{unary_rows, binary_rows, unary_of, binary_of}
-use Rattle.plarith.specs.Errors.{Evaluated, alone, pair, error_of}
+use Rattle.plarith.specs.Errors.{Evaluated, error_of}
+use Rattle.plerror.specs.Errors.{alone, pair}
 use Rattle.plarith.specs.Evaluation.{eval}
 
 abbrev minus : ℕ → ℤ

@@ -10,7 +10,7 @@ use Rattle.plops.specs.Listing.{current_ops}
 use Rattle.plops.specs.declared.operator.Kind.TheVariants.{Xfx}
 use Rattle.plops.specs.declared.table.Entry.{Entry}
 use Rattle.plwrite.specs.declared.style.Style.TheVariants.{Plain}
-use Rattle.plbuiltin.specs.Errors.{instantiation_error, type_error, domain_error, permission_error, representation_error, syntax_error}
+use Rattle.plerror.specs.Errors.{instantiation_error, type_error, domain_error, permission_error, representation_error, syntax_error, evaluation_error, indicator_term}
 use Rattle.plbuiltin.specs.Solution.{Solution, Raises, Gives, are, are_one_of, fails, unifies, writes, sets, decides}
 use Rattle.plbuiltin.specs.Flags.{asked, set_flag}
 use Rattle.plbuiltin.specs.Format.{Byte, Takes, Amiss, Written, pieces, format}
@@ -26,7 +26,6 @@ use Rattle.plnames.specs.declared.kind.Comparison.TheVariants.{Equal, Unequal, L
 use Rattle.plnames.specs.declared.kind.Arithmetic.TheVariants.{Is, Compare}
 use Rattle.plarith.specs.Functors.{binary_of, binary_rows}
 use Rattle.plarith.specs.Evaluation.{eval}
-use Rattle.plarith.specs.Errors.{evaluation_error, indicator_term}
 use Rattle.plbuiltin.specs.Lists.{elements_of}
 use Rattle.plbuiltin.specs.Tests.{holds}
 use Rattle.plbuiltin.specs.Parts.{arg, both, functor, univ}

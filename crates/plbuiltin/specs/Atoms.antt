@@ -9,7 +9,7 @@ use Rattle.plnames.specs.declared.kind.Atoms.TheVariants.{Length, Spelled, Chara
 use Rattle.plnames.specs.declared.kind.Spelling.{Spelling}
 use Rattle.plnames.specs.declared.kind.Spelling.TheVariants.{Characters, Codes}
 use Rattle.plprogram.specs.declared.settings.Settings.{Settings}
-use Rattle.plbuiltin.specs.Errors.{instantiation_error, type_error, domain_error, syntax_error}
+use Rattle.plerror.specs.Errors.{instantiation_error, type_error, domain_error, syntax_error}
 use Rattle.plbuiltin.specs.Solution.{Solved, Raises, fails, unifies}
 use Rattle.plbuiltin.specs.Pieces.{atom_concat, sub_atom}
 use Rattle.plbuiltin.specs.Texts.{Found, number_text, spelled, character_of, text_in, atom_of}

@@ -12,7 +12,8 @@ use Rattle.plprogram.specs.Changes.{kind_named, is_read_only}
 use Rattle.plprogram.specs.declared.settings.Settings.{Settings}
 use Rattle.plprogram.specs.declared.settings.Unknown.{Unknown}
 use Rattle.plprogram.specs.declared.settings.Unknown.TheVariants.{Error, Fail}
-use Rattle.plbuiltin.specs.Errors.{type_error, domain_error, atom_error, first_error}
+use Rattle.plbuiltin.specs.Errors.{atom_error, first_error}
+use Rattle.plerror.specs.Errors.{type_error, domain_error}
 use Rattle.plbuiltin.specs.Solution.{Solved, unless, are_one_of}
 
 -- the error of an argument that is to be a variable or a priority

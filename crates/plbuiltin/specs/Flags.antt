@@ -14,7 +14,7 @@ use Rattle.plprogram.specs.declared.change.FlagError.TheVariants.{NoFlag, ReadOn
 use Rattle.plprogram.specs.declared.change.Refusal.{Refusal}
 use Rattle.plprogram.specs.declared.settings.Settings.{Settings}
 use Rattle.plbuiltin.specs.Current.{current_op, current_flag}
-use Rattle.plbuiltin.specs.Errors.{instantiation_error, type_error, domain_error, permission_error}
+use Rattle.plerror.specs.Errors.{instantiation_error, type_error, domain_error, permission_error}
 use Rattle.plbuiltin.specs.Lists.{Tail, Empty, Unbound, Other, elements_of, is_partial, is_variable}
 use Rattle.plbuiltin.specs.Solution.{Solved, Raises, fails, sets}
 use Rattle.plbuiltin.specs.Texts.{Found}

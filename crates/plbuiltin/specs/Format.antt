@@ -7,7 +7,7 @@ use Rattle.plwrite.specs.declared.style.Style.{Style}
 use Rattle.plwrite.specs.declared.style.Style.TheVariants.{Plain, Quoted}
 use Rattle.plnames.specs.declared.kind.Spelling.TheVariants.{Characters, Codes}
 use Rattle.plprogram.specs.declared.settings.Settings.{Settings}
-use Rattle.plbuiltin.specs.Errors.{instantiation_error, type_error, domain_error}
+use Rattle.plerror.specs.Errors.{instantiation_error, type_error, domain_error}
 use Rattle.plbuiltin.specs.Lists.{Tail, Empty, Unbound, Other, elements_of, is_partial}
 use Rattle.plbuiltin.specs.Solution.{Solved, Raises, fails, writes}
 use Rattle.plbuiltin.specs.Texts.{Found, number_text, text_in}

@@ -3,7 +3,7 @@ use Rattle.std.specs.Prelude.{Bool, true, false, ◌||◌, List, [], ◌∷◌, 
 use Rattle.std.specs.List.{list_any}
 use Rattle.std.specs.Str.{bytes_eq}
 use Rattle.plterm.specs.Tree.{Tree, var, int, atom, compound, Trees, none, more}
-use Rattle.plbuiltin.specs.Errors.{instantiation_error, type_error}
+use Rattle.plerror.specs.Errors.{instantiation_error, type_error}
 
 -- what stands behind the last element: the empty list, a variable, or another term
 pub data Tail : Type 0 where

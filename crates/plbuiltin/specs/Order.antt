@@ -12,7 +12,7 @@ use Rattle.plnames.specs.declared.kind.Order.TheVariants.{Holds, Compare, Ground
 use Rattle.plnames.specs.declared.kind.Relation.{Relation}
 use Rattle.plnames.specs.declared.kind.Relation.TheVariants.{Same, Different, Before, NotAfter, After, NotBefore}
 use Rattle.plprogram.specs.declared.settings.Settings.{Settings}
-use Rattle.plbuiltin.specs.Errors.{type_error, domain_error}
+use Rattle.plerror.specs.Errors.{type_error, domain_error}
 use Rattle.plbuiltin.specs.Solution.{Solved, Raises, fails, unifies, decides}
 
 -- whether two terms of an order stand so

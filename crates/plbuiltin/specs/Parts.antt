@@ -6,7 +6,7 @@ use Rattle.plread.specs.Texts.{listed}
 use Rattle.plnames.specs.declared.kind.Parts.{Parts}
 use Rattle.plnames.specs.declared.kind.Parts.TheVariants.{Argument, Functor, Univ, Copy, Variables}
 use Rattle.plprogram.specs.declared.settings.Settings.{Settings}
-use Rattle.plbuiltin.specs.Errors.{instantiation_error, type_error, domain_error, representation_error}
+use Rattle.plerror.specs.Errors.{instantiation_error, type_error, domain_error, representation_error}
 use Rattle.plbuiltin.specs.Lists.{Checked, Whole, Amiss, checked}
 use Rattle.plbuiltin.specs.Solution.{Solved, Raises, Gives, fails, unifies}
 

@@ -3,7 +3,8 @@ use Rattle.std.specs.Prelude.{ℕ, zero, suc, pos, negsuc, List, [], ◌∷◌, 
 use Rattle.std.specs.Str.{chars, encode_utf8_all}
 use Rattle.plterm.specs.Tree.{Tree, var, int, atom, compound}
 use Rattle.plprogram.specs.declared.settings.Settings.{Settings}
-use Rattle.plbuiltin.specs.Errors.{instantiation_error, type_error, domain_error, atom_error, first_error}
+use Rattle.plbuiltin.specs.Errors.{atom_error, first_error}
+use Rattle.plerror.specs.Errors.{instantiation_error, type_error, domain_error}
 use Rattle.plbuiltin.specs.Solution.{Solution, Solved, Raises, Gives, fails, unifies, unless, are}
 use Rattle.plbuiltin.specs.Texts.{Found, number_text, atom_of}
 

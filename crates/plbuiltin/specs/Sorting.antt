@@ -7,7 +7,7 @@ use Rattle.plsort.specs.Sorted.{sorted, set_of, by_key}
 use Rattle.plnames.specs.declared.kind.Sorting.{Sorting}
 use Rattle.plnames.specs.declared.kind.Sorting.TheVariants.{Once, Each, Keys}
 use Rattle.plprogram.specs.declared.settings.Settings.{Settings}
-use Rattle.plbuiltin.specs.Errors.{instantiation_error, type_error}
+use Rattle.plerror.specs.Errors.{instantiation_error, type_error}
 use Rattle.plbuiltin.specs.Lists.{Checked, Whole, Amiss, checked}
 use Rattle.plbuiltin.specs.Solution.{Solved, Raises, fails, unifies}
 

@@ -7,7 +7,7 @@ use Rattle.pllex.specs.Escapes.{is_scalar}
 use Rattle.plread.specs.Texts.{listed, code_tree, char_tree}
 use Rattle.plnames.specs.declared.kind.Spelling.{Spelling}
 use Rattle.plnames.specs.declared.kind.Spelling.TheVariants.{Characters, Codes}
-use Rattle.plbuiltin.specs.Errors.{instantiation_error, type_error, representation_error}
+use Rattle.plerror.specs.Errors.{instantiation_error, type_error, representation_error}
 use Rattle.plbuiltin.specs.Lists.{Tail, Empty, Unbound, Other, elements_of}
 
 -- what is found, or the error

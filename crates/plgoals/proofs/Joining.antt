@@ -11,7 +11,7 @@ use Rattle.plcells.specs.declared.cell.Cell.{Cell}
 use Rattle.plcells.specs.Store.{Store, term, terms, value, AreValues, Preserves, renamed, AddsValue}
 use Rattle.plcells.specs.Putting.{PutsTerm}
 use Rattle.plcells.proofs.Putting.{adds-renamed, adds-value, adds-both}
-use Rattle.plsearch.specs.Errors.{arity_error}
+use Rattle.plerror.specs.Errors.{arity_error}
 use Rattle.plsearch.specs.Running.{Runs, Raises, with_arguments, compound_of}
 use Rattle.plgoals.specs.declared.extend.Extended.TheVariants.{Is, Unbound, TooLong}
 use Rattle.plgoals.specs.Extended.{AreArguments, Extends}

@@ -1,6 +1,6 @@
 -- A term on the machine's heap with further arguments.
 use Rattle.std.specs.Prelude.{◌≡◌, ℕ, suc, List, map}
-use Rattle.plsearch.specs.Errors.{instantiation_error, callable_error, arity_error}
+use Rattle.plerror.specs.Errors.{instantiation_error, callable_error, arity_error}
 use Rattle.plsearch.specs.Running.{Runnable, Runs, Raises, with_arguments}
 use Rattle.plcells.specs.declared.cell.Cell.{Cell}
 use Rattle.plcells.specs.Store.{Store, terms, value, IsValue, AreValues}

@@ -65,7 +65,7 @@ pub fn rest_of_character(text: &[u8], place: usize) -> Option<usize>
 
 /// The code of the character at a place, of so many further bytes.
 #[tactic(auto, unfolding(crate::specs::Characters::code_at))]
-pub fn code_at(text: &[u8], place: usize, rest: usize) -> u64
+pub(crate) fn code_at(text: &[u8], place: usize, rest: usize) -> u64
     requires within { place + rest + 1 ≤ length text.now }
     requires utf8 { is_utf8 (take (rest + 1) (drop place text.now)) ≡ true }
     ensures value { result ≡ code_at (take (rest + 1) (drop place text.now)) }

@@ -67,7 +67,7 @@ fn of_code(code: u32) -> AfterEscape
     }
 }
 
-pub fn escape_turn(escape: Escape, b: u8) -> AfterEscape
+pub(crate) fn escape_turn(escape: Escape, b: u8) -> AfterEscape
     ensures { result ≡ escape_turn escape b }
 {
     match escape {

@@ -105,7 +105,7 @@ fn newline_turn(start: usize, escape: Escape) -> QuotedStep
     }
 }
 
-pub fn quoted_turn(
+pub(crate) fn quoted_turn(
     text: &[u8],
     place: usize,
     quote: Quote,

@@ -20,5 +20,4 @@ pub mod Seeking
 pub mod Updating
 pub mod Clausal
 pub mod Necks
-pub mod Declaring
 pub mod Firsts

@@ -11,7 +11,8 @@ use Rattle.pltx.specs.Own.{any_open}
 use Rattle.plviews.specs.Layers.{Layered}
 use Rattle.plprogram.specs.Program.{Program}
 use Rattle.plsearch.specs.Types.{Throw, Element, Resolvent, Case, Local, Move, Give, Go}
-use Rattle.plsearch.specs.Errors.{error_term, instantiation_error}
+use Rattle.plbuiltin.specs.Lists.{is_variable}
+use Rattle.plerror.specs.Errors.{error_term, instantiation_error}
 use Rattle.plsearch.specs.Lists.{levels}
 use Rattle.plsearch.specs.Moves.{raised, go_on}
 use Rattle.plsearch.specs.Rows.{thrown, throw_1}
@@ -29,7 +30,7 @@ use Rattle.plmachine.specs.declared.machine.Mode.{Mode as Going}
 use Rattle.plmachine.specs.declared.machine.Mode.TheVariants as modes
 use Rattle.plmachine.specs.declared.machine.Machine.{Machine as Reached}
 use Rattle.plmachine.specs.Lists.{Grown, Holds}
-use Rattle.plmachine.specs.Machine.{result_of, element_of, machine_in, mode_of, below_in, local_of, run_in, after, cases_in, depth_of, machine, now, is_var, IsAskable, IsCarried, IsPlain, IsTied, MayAsk, MayCarry, Moved, MovedBy, Stays, SeeksAnew}
+use Rattle.plmachine.specs.Machine.{result_of, element_of, machine_in, mode_of, below_in, local_of, run_in, after, cases_in, depth_of, machine, now, IsAskable, IsCarried, IsPlain, IsTied, MayAsk, MayCarry, Moved, MovedBy, Stays, SeeksAnew}
 use Rattle.plmachine.proofs.Askable.{carry-as, kinds-as, may-ask, same-machine, ValuesStay}
 
 -- ---- a machine by its parts
@@ -285,19 +286,19 @@ pub raises : (P : Program) (s new : Reached) (e : Tree) (p : Indicator) (es : Li
 unfolding raised
 raises P s new e p es r is carried made = subst (λ x. Moved P s new (Give x (local_of s))) is (gave P s new r carried made)
 
-pub thrown-other : (t : Tree) (es : List Element) (w : Local) → is_var t ≡ false → thrown t es w ≡ Give (Throw (copied 0 t) (levels es)) w
+pub thrown-other : (t : Tree) (es : List Element) (w : Local) → is_variable t ≡ false → thrown t es w ≡ Give (Throw (copied 0 t) (levels es)) w
 thrown-other (var x) es w not = absurd (grind (arith, not))
 thrown-other (int i) es w not = refl
 thrown-other (atom f) es w not = refl
 thrown-other (compound f ts) es w not = refl
 
-pub thrown-var : (t : Tree) (es : List Element) (w : Local) → is_var t ≡ true → thrown t es w ≡ raised instantiation_error throw_1 es w
+pub thrown-var : (t : Tree) (es : List Element) (w : Local) → is_variable t ≡ true → thrown t es w ≡ raised instantiation_error throw_1 es w
 thrown-var (var x) es w is = refl
 thrown-var (int i) es w is = absurd (grind (arith, is))
 thrown-var (atom f) es w is = absurd (grind (arith, is))
 thrown-var (compound f ts) es w is = absurd (grind (arith, is))
 
-pub throws : (P : Program) (s new : Reached) (t : Tree) (es : List Element) (r : Outcome) → is_var t ≡ false → result_of r ≡ Throw (copied 0 t) (levels es) → IsCarried s.stack r →
+pub throws : (P : Program) (s new : Reached) (t : Tree) (es : List Element) (r : Outcome) → is_variable t ≡ false → result_of r ≡ Throw (copied 0 t) (levels es) → IsCarried s.stack r →
     new ≡ record s { mode = modes.Back r } → Moved P s new (thrown t es (local_of s))
 throws P s new t es r other is carried made =
     subst (Moved P s new) (sym (thrown-other t es (local_of s) other)) (subst (λ x. Moved P s new (Give x (local_of s))) is (gave P s new r carried made))

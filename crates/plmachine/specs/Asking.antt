@@ -1,7 +1,5 @@
 -- The number of halt/1.
 use Rattle.std.specs.Prelude.{ℕ, List, ◌∷◌}
-use Rattle.std.specs.Bool.{⊤}
-use Rattle.plterm.specs.Tree.{Tree, var, int, atom, compound}
 use Rattle.plevent.specs.declared.request.Request.TheVariants.{HaltRun}
 use Rattle.plsearch.specs.Types.{Element, Local, Move, Asking, Await, Ends}
 use Rattle.plsearch.specs.Moves.{go_on, raised}
@@ -13,9 +11,3 @@ use Rattle.plmachine.specs.declared.asking.Status.TheVariants as statuses
 abbrev pub ended_with : Status → List Element → ℕ → Local → Move
 ended_with (statuses.Is k) es n w = go_on (Asking (Await (HaltRun k) (Ends k)) ∷ es) n w
 ended_with (statuses.Raises e) es n w = raised e halt_1 es w
-
-abbrev pub IsNoInteger : Tree → Type 0
-IsNoInteger (var x) = ⊤
-IsNoInteger (int i) = ⊥
-IsNoInteger (atom f) = ⊤
-IsNoInteger (compound f ts) = ⊤

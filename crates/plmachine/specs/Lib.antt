@@ -1,4 +1,3 @@
-pub mod Predicates
 pub mod Machine
 pub mod Within
 pub mod Seeking
@@ -8,6 +7,5 @@ pub mod Asking
 pub mod Selected
 pub mod Gathering
 pub mod Calculating
-pub mod Naming
 pub mod Clauses
 pub mod Sought

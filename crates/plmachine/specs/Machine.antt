@@ -318,9 +318,3 @@ pub record Stays (P : Program) (old new : Reached) : Type 0 where
   pub askable : MayAsk old.layer.own old.stack old.mode → MayAsk new.layer.own new.stack new.mode
   pub carry : MayCarry old.stack old.mode → MayCarry new.stack new.mode
   pub same : MayAsk old.layer.own old.stack old.mode → (v : Views) (left : ℕ) (answers : List Answer) → machine P v left answers new ≡ machine P v left answers old
-
-abbrev pub is_var : Tree → Bool
-is_var (var x) = true
-is_var (int i) = false
-is_var (atom f) = false
-is_var (compound f ts) = false

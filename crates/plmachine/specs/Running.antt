@@ -10,7 +10,7 @@ use Rattle.plstack.specs.Opening.{around_cases, IsAround}
 use Rattle.plmachine.specs.declared.running.Ready.{Ready}
 use Rattle.plmachine.specs.declared.running.Ready.TheVariants as readies
 use Rattle.plmachine.specs.declared.running.Running.{Running}
-use Rattle.plmachine.specs.Predicates.{IsFew}
+use Rattle.plrefusals.specs.Predicates.{IsFew}
 
 -- what a term comes to as a goal
 abbrev pub ready_as : State → Ready → Runnable

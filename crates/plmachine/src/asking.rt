@@ -13,14 +13,14 @@ ghost use Rattle.plmachine.specs.Asking.{ended_with, IsNoInteger};
 ghost use Rattle.plmachine.specs.Machine.{local_of, Moved, Stays};
 ghost use Rattle.plprogram.specs.Program.{Program as Given};
 
-use crate::error;
 use crate::machine::{Machine, Question, Then};
-use crate::predicate::Predicate;
-use crate::rows::is_variable;
+use planswers::list::is_variable;
 use plcells::cell::Cell;
-use plcells::heap::Heap;
+use plerror::error;
 use plevent::request::Request;
 use pllinks::link::Continuation;
+use plrefusals::predicate::Predicate;
+use plrefusals::value::integer_in;
 use plterm::term::Term;
 use std::alloc::AllocError;
 
@@ -72,28 +72,15 @@ impl Machine {
     {
         let heap = self.stack.env().heap();
         if is_variable(heap, &number) {
-            let error = error::instantiation(self.alloc)?;
+            let error = error::instantiation_error(self.alloc)?;
             return Ok(Status::Raises(error));
         }
         if let Some(number) = integer_in(heap, &number) {
             return Ok(Status::Is(modulo_256(number)));
         }
         let culprit = heap.take(self.alloc, number)?;
-        let error = error::not_integer(self.alloc, culprit)?;
+        let error = error::type_error(self.alloc, "integer", culprit)?;
         Ok(Status::Raises(error))
-    }
-}
-
-/// The integer that the term of a value is.
-pub(crate) fn integer_in(heap: &Heap, v: &Cell) -> Option<i64>
-    requires { IsValue heap.now v.now }
-    ensures some { IfSome result (λ i. value heap.now v.now ≡ int i) }
-    ensures none { IfNone result (IsNoInteger (value heap.now v.now)) }
-{
-    let root = heap.root(*v);
-    match root {
-        Cell::Int(_) | Cell::Wide(_) => Some(heap.integer_of(root)),
-        _ => None,
     }
 }
 

@@ -22,7 +22,6 @@ ghost use Rattle.plmachine.specs.Selected.{StandsFor};
 ghost use Rattle.plmachine.specs.Machine.{local_of, IsBegun, Moved, Stays};
 ghost use Rattle.plprogram.specs.Program.{Program as Given};
 
-use crate::indicator::indicator_of;
 use crate::machine::{Machine, Mode, Outcome};
 use crate::select::Source;
 use planswers::answer::Answer;
@@ -32,6 +31,7 @@ use pllinks::link::Continuation;
 use plnames::kind::BuiltIn;
 use plpredicates::built_in::answers;
 use plprogram::settings::Settings;
+use plrefusals::value::indicator_of;
 use plterm::term::Term;
 use std::alloc::AllocError;
 

@@ -19,11 +19,7 @@ ghost use Rattle.plmachine.specs.Clauses.{entered_mode, IsNeck};
 ghost use Rattle.plmachine.specs.Machine.{below_in, depth_of, local_of, IsBegun, IsTied, Moved, MovedBy, Stays};
 ghost use Rattle.plmachine.specs.Selected.{StandsFor};
 
-use crate::error;
-use crate::indicator::indicator_of;
 use crate::machine::{Lookup, Machine, Mode, Question};
-use crate::naming::{Declaration, declared};
-use crate::refusal::{no_body, no_head, unchangeable, unerasable, unreadable};
 use crate::select::Source;
 use crate::walk::Neck;
 use plcells::cell::Cell;
@@ -31,10 +27,14 @@ use plcells::heap::Heap;
 use plclause::clause::Clause;
 use plclause::form::{ClauseForm, clause_with};
 use plclause::named::named_terms;
+use plerror::error;
 use plevent::update::Update;
 use pllinks::link::Continuation;
 use plnames::kind::Side;
 use plprogram::program::Program;
+use plrefusals::naming::{Declaration, declared};
+use plrefusals::refusal::{no_body, no_head, unchangeable, unerasable, unreadable};
+use plrefusals::value::indicator_of;
 use plstack::frame::{Spot, Use};
 use plstack::walk::Entered;
 use plterm::term::Term;
@@ -63,11 +63,11 @@ impl Machine {
         let term = self.stack.env().heap().take(self.alloc, c)?;
         match clause_with(self.alloc, term, self.stack.truth())? {
             ClauseForm::NoHead => {
-                let error = error::instantiation(self.alloc)?;
+                let error = error::instantiation_error(self.alloc)?;
                 self.raise_of(error, source, rest)
             }
             ClauseForm::BadHead(culprit) | ClauseForm::BadBody(culprit) => {
-                let error = error::not_callable(self.alloc, culprit)?;
+                let error = error::type_error(self.alloc, "callable", culprit)?;
                 self.raise_of(error, source, rest)
             }
             ClauseForm::IsClause(clause) => self.add_clause(program, side, clause, source, rest),

@@ -16,7 +16,6 @@ ghost use Rattle.plmachine.specs.Machine.{depth_of, local_of, Moved, Stays};
 ghost use Rattle.plprogram.specs.Program.{Program as Given};
 
 use crate::machine::Machine;
-use crate::predicate::Predicate;
 use crate::running::Running;
 use planswers::error::type_error;
 use planswers::list::may_be_list;
@@ -24,6 +23,7 @@ use plcells::cell::Cell;
 use pllinks::item::{MarkerKind, Portion};
 use pllinks::level::Level;
 use pllinks::link::Continuation;
+use plrefusals::predicate::Predicate;
 use plstack::frame::{Around, Handler, Handling};
 use std::alloc::{AllocError, Global};
 

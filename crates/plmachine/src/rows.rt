@@ -13,18 +13,18 @@ ghost use Rattle.plstack.specs.Levels.{kinds, FitsIn, Precedes};
 ghost use Rattle.plstack.specs.State.{cases_of, goals_of, kinds_in, IsFit, IsList};
 ghost use Rattle.plstack.specs.Opening.{around_cases, branch_of, IsAround};
 ghost use Rattle.plmachine.specs.Lists.{at_level, elements_of, AreGoals, IsPart};
-ghost use Rattle.plmachine.specs.Machine.{depth_of, is_var, element_of, local_of, IsAskable, IsBegun, Moved, Stays};
+ghost use Rattle.plmachine.specs.Machine.{depth_of, element_of, local_of, IsAskable, IsBegun, Moved, Stays};
 ghost use Rattle.plprogram.specs.Program.{Program as Given};
 
-use crate::error;
 use crate::list::{at_level, failure, two_before, two_in_turn};
 use crate::machine::{Machine, Mode, Outcome, Question};
-use crate::predicate::Predicate;
+use planswers::list::is_variable;
 use plcells::cell::Cell;
-use plcells::heap::Heap;
+use plerror::error;
 use pllinks::item::{MarkerKind, Portion};
 use pllinks::level::Level;
 use pllinks::link::Continuation;
+use plrefusals::predicate::Predicate;
 use plstack::frame::Around;
 use plterm::indicator::Indicator;
 use plterm::term::Term;
@@ -235,7 +235,7 @@ impl Machine {
     {
         if is_variable(self.stack.env().heap(), &ball) {
             let p = Predicate::Throw.indicator(self.alloc)?;
-            let error = error::instantiation(self.alloc)?;
+            let error = error::instantiation_error(self.alloc)?;
             return self.raise(error, &p, rest);
         }
         let term = self.stack.env().heap().take(self.alloc, ball)?;
@@ -244,12 +244,4 @@ impl Machine {
         self.give(Outcome::Throw(copy, levels));
         Ok(())
     }
-}
-
-/// Whether the term of a value is a variable.
-pub fn is_variable(heap: &Heap, v: &Cell) -> bool
-    requires { IsValue heap.now v.now }
-    ensures { result ≡ is_var (value heap.now v.now) }
-{
-    matches!(heap.root(*v), Cell::Ref(_))
 }

@@ -5,7 +5,7 @@ ghost use Rattle.std.specs.Prelude.{◌≡◌, ◌<◌, ◌≤◌, suc, List, []
 ghost use Rattle.plterm.specs.Variables.{copied};
 ghost use Rattle.plcells.specs.declared.cell.Cell.{Cell as OfCell};
 ghost use Rattle.plcells.specs.Store.{value, IsValue, AreValues};
-ghost use Rattle.plsearch.specs.Errors.{callable_error, error_term};
+ghost use Rattle.plerror.specs.Errors.{callable_error, error_term};
 ghost use Rattle.plsearch.specs.Types.{Choice, Commit, Goal, Marker, Never, Until, Raise, Go};
 ghost use Rattle.plsearch.specs.Running.{called, runnable};
 ghost use Rattle.plsearch.specs.Moves.{run as runs};
@@ -14,20 +14,20 @@ ghost use Rattle.plstack.specs.Levels.{kinds, Precedes};
 ghost use Rattle.plstack.specs.State.{goals_of, kinds_in, IsFit, IsList};
 ghost use Rattle.plstack.specs.Opening.{around_cases, IsAround};
 ghost use Rattle.plmachine.specs.Lists.{elements_of, Grown, Holds, IsPart};
-ghost use Rattle.plmachine.specs.Predicates.{predicate_of};
+ghost use Rattle.plrefusals.specs.Predicates.{predicate_of};
 ghost use Rattle.plmachine.specs.Running.{ready_as, IsReady, IsRunning, Readies};
 ghost use Rattle.plmachine.specs.Machine.{depth_of, local_of, Moved, Stays};
 ghost use Rattle.plprogram.specs.Program.{Program as Given};
 
-use crate::error;
 use crate::machine::{Machine, Outcome};
-use crate::predicate::Predicate;
-use crate::rows::is_variable;
+use planswers::list::is_variable;
 use plcells::cell::Cell;
+use plerror::error;
 use plgoals::extend::Extended;
 use pllinks::item::{MarkerKind, Portion};
 use pllinks::level::Level;
 use pllinks::link::Continuation;
+use plrefusals::predicate::Predicate;
 use plstack::frame::{Around, Catcher, Handler, Handling};
 use plterm::term::Term;
 use std::alloc::AllocError;
@@ -228,7 +228,7 @@ impl Machine {
         ensures frame { self.new ≡ record self.old { stack = self.new.stack } }
     {
         if is_variable(self.stack.env().heap(), goal) {
-            let error = error::instantiation(self.alloc)?;
+            let error = error::instantiation_error(self.alloc)?;
             return Ok(Ready::Raises(error));
         }
         match self.stack.goal_of(self.alloc, *goal)? {
@@ -246,7 +246,7 @@ impl Machine {
         ensures { IfOk result (λ e. e ≡ callable_error (value self.now.stack.env.heap v)) }
     {
         let culprit = self.stack.env().heap().take(self.alloc, v)?;
-        error::not_callable(self.alloc, culprit)
+        error::type_error(self.alloc, "callable", culprit)
     }
 
     /// What the first argument comes to as a goal once the others are added to it as its further arguments.
@@ -268,7 +268,7 @@ impl Machine {
         {
             Extended::Is(made) => self.ready(&made),
             Extended::Unbound => {
-                let error = error::instantiation(self.alloc)?;
+                let error = error::instantiation_error(self.alloc)?;
                 Ok(Ready::Raises(error))
             }
             Extended::Number => {
@@ -276,7 +276,7 @@ impl Machine {
                 Ok(Ready::Raises(error))
             }
             Extended::TooLong => {
-                let error = error::too_long(self.alloc)?;
+                let error = error::representation_error(self.alloc, "max_arity")?;
                 Ok(Ready::Raises(error))
             }
         }

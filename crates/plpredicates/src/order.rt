@@ -10,9 +10,10 @@ ghost use Rattle.planswers.specs.Answers.{IsThere, meant};
 
 use planswers::answer::Answer;
 use planswers::equation::is_term;
-use planswers::error::{atom, outside, wrong_type};
+use planswers::error::{outside, wrong_type};
 use plcells::cell::Cell;
 use plcells::heap::Heap;
+use plerror::error::atom;
 use plnames::kind::{Order, Relation};
 use plorder::compare::{Room, compare};
 use plorder::shape::{Shape, shape_of};

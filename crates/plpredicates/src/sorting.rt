@@ -9,10 +9,11 @@ ghost use Rattle.planswers.specs.Answers.{IsThere, meant};
 
 use planswers::answer::Answer;
 use planswers::equation::is_list_of;
-use planswers::error::{instantiation_error, type_error};
+use planswers::error::type_error;
 use planswers::list::{Checked, whole_list};
 use plcells::cell::Cell;
 use plcells::heap::Heap;
+use plerror::error::instantiation_error;
 use plnames::kind::Sorting;
 use plorder::compare::Room;
 use plorder::shape::{Block, Shape, shape_of};

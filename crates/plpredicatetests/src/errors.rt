@@ -7,6 +7,9 @@ use planswers::answer::Answer;
 use planswers::error;
 use plcells::cell::Cell;
 use plcells::heap::Heap;
+use plerror::error::{
+    domain_error, instantiation_error, permission_error, representation_error, syntax_error,
+};
 use plterm::term::Term;
 use std::alloc::{AllocError, Global};
 use std::string::String;
@@ -41,9 +44,9 @@ fn raised(answer: Answer) -> Option<Term> {
 /// The error that is made of a word, and of no value.
 fn of_word(alloc: Global, amiss: Amiss) -> Result<Option<Term>, AllocError> {
     let error = match amiss {
-        Amiss::Unbound => error::instantiation_error(alloc)?,
-        Amiss::Representation => error::representation_error(alloc, "max_arity")?,
-        _ => error::syntax_error(alloc, "illegal_number")?,
+        Amiss::Unbound => instantiation_error(alloc)?,
+        Amiss::Representation => representation_error(alloc, "max_arity")?,
+        _ => syntax_error(alloc, "illegal_number")?,
     };
     Ok(Some(error))
 }
@@ -51,8 +54,8 @@ fn of_word(alloc: Global, amiss: Amiss) -> Result<Option<Term>, AllocError> {
 /// The error that is made of a term.
 fn of_term(alloc: Global, amiss: Amiss, culprit: Term) -> Result<Option<Term>, AllocError> {
     let error = match amiss {
-        Amiss::Domain => error::domain_error(alloc, "order", culprit)?,
-        _ => error::permission_error(alloc, "modify", "flag", culprit)?,
+        Amiss::Domain => domain_error(alloc, "order", culprit)?,
+        _ => permission_error(alloc, "modify", "flag", culprit)?,
     };
     Ok(Some(error))
 }

@@ -149,7 +149,7 @@ fn sign_of<'a>(
 
 /// The words and the tokens of a clause of a text, and the names of its variables, which are parts of the text. The time is
 /// linear in the tokens and their bytes.
-pub fn input_of<'a>(
+pub(crate) fn input_of<'a>(
     alloc: Global,
     text: &'a [u8],
     quotes: Quotes,

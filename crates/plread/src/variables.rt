@@ -38,7 +38,7 @@ impl<'a> Variables<'a> {
     }
 
     /// The names, in the order of their numbers.
-    pub fn into_names(self) -> Vec<&'a str>
+    pub(crate) fn into_names(self) -> Vec<&'a str>
         ensures { map (λ name. name.now) result.items ≡ self.entry }
     {
         let Variables { order, .. } = self;

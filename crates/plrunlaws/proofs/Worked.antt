@@ -24,7 +24,7 @@ use Rattle.plprogram.specs.declared.settings.Unknown.TheVariants as unknown
 use Rattle.plprogram.specs.Program.{Program}
 use Rattle.pltx.specs.Own.{any_open}
 use Rattle.plsearch.specs.Types.{Halted}
-use Rattle.plsearch.specs.Errors.{pair}
+use Rattle.plerror.specs.Errors.{pair}
 use Rattle.plsearch.specs.Moves.{raised}
 use Rattle.plsearch.specs.Rows.{row, select, meet}
 use Rattle.plsearch.specs.Replies.{answered}

@@ -9,7 +9,7 @@ use Rattle.plevent.specs.declared.request.Request.TheVariants.{Publish, HaltRun}
 use Rattle.plevent.specs.declared.request.ThreadEnd.TheVariants.{True, False, Exception}
 use Rattle.plevent.specs.declared.update.Update.{Update}
 use Rattle.plevent.specs.declared.update.Update.TheVariants.{Last, Erase, EraseOwn}
-use Rattle.plsearch.specs.Errors.{pair}
+use Rattle.plerror.specs.Errors.{pair}
 use Rattle.plsearch.specs.Search.{search_of}
 use Rattle.plsearch.proofs.Worked.{all, name, of, and, with_variables}
 

@@ -7,7 +7,7 @@ use Rattle.plsubst.specs.Subst.{bind}
 use Rattle.plsubst.specs.Unify.{unify}
 use Rattle.pltx.specs.Own.{ended}
 use Rattle.plsearch.specs.Types.{Result, Fail, Throw, Element, Goal, Resolvent, Handler, Catch, Gather, Undo, Local, Return, Keep, Again, Anew}
-use Rattle.plsearch.specs.Errors.{error_term}
+use Rattle.plerror.specs.Errors.{error_term}
 use Rattle.plsearch.specs.Lists.{bind_goals, levels}
 use Rattle.plsearch.specs.Running.{Runnable, Runs, Raises, runnable}
 use Rattle.plsearch.specs.Collecting.{copies_from, dropped, gathered}

@@ -1,5 +1,4 @@
 pub mod Types
-pub mod Errors
 pub mod Lists
 pub mod Collecting
 pub mod Forms

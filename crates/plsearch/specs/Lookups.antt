@@ -12,7 +12,7 @@ use Rattle.plevent.specs.declared.update.Update.{Update}
 use Rattle.pltx.specs.Own.{State, any_open}
 use Rattle.plprogram.specs.declared.settings.Unknown.TheVariants as unknown
 use Rattle.plprogram.specs.declared.settings.Unknown.{Unknown}
-use Rattle.plsearch.specs.Errors.{pair, procedure_error}
+use Rattle.plerror.specs.Errors.{pair, procedure_error}
 use Rattle.plsearch.specs.Moves.{call, choose, go_on, publish, raised, resolve}
 use Rattle.plsearch.specs.Types.{Asking, Element, Fail, Give, Local, Look, Lookup, Move, Resolvent, Question, ToCall, ToRetract, ToRetractAll, ToRetrieve}
 

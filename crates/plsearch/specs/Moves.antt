@@ -11,7 +11,7 @@ use Rattle.plevent.specs.declared.update.Update.{Update}
 use Rattle.pltx.specs.Own.{all_made, any_open, begun}
 use Rattle.pltx.specs.declared.level.Isolation.TheVariants.{Snapshot, Transaction}
 use Rattle.pltx.specs.declared.level.Isolation.{Isolation}
-use Rattle.plsearch.specs.Errors.{error_term}
+use Rattle.plerror.specs.Errors.{error_term}
 use Rattle.plsearch.specs.Lists.{bind_goals, levels}
 use Rattle.plsearch.specs.Running.{Raises, Runnable, Runs, runnable}
 use Rattle.plsearch.specs.Types.{Asking, Await, Case, Choice, Element, Fail, Give, Go, Goal, GoesOn, Handle, Local, Marker, Move, Resolvent, Raise, Throw, Transact, Undo}

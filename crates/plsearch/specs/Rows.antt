@@ -24,13 +24,12 @@ use Rattle.plnames.specs.Names.{is_fixed}
 use Rattle.plnames.specs.declared.kind.Side.TheVariants as sides
 use Rattle.plnames.specs.declared.kind.Side.{Side}
 use Rattle.plprogram.specs.Program.{Program, clauses_for}
-use Rattle.plbuiltin.specs.Errors.{type_error}
+use Rattle.plerror.specs.Errors.{type_error, callable_error, instantiation_error, integer_error, naming_error, private_error, static_error}
 use Rattle.plbuiltin.specs.Lists.{may_be_list}
 use Rattle.plbuiltin.specs.Solution.{Gives, Solution, Solved}
 use Rattle.plbuiltin.specs.Solution.{Raises as Refuses}
 use Rattle.plbuiltin.specs.Solutions.{solutions}
 use Rattle.plsearch.specs.Collecting.{collected}
-use Rattle.plsearch.specs.Errors.{callable_error, instantiation_error, integer_error, naming_error, private_error, static_error}
 use Rattle.plsearch.specs.Forms.{Adding, Both, BuiltIn, Call, CallWith, Catching, Cut, Declaring, Either, False, FindAll, Form, Halting, IfThenElse, NoGoal, Not, Once, Retracting, RetractingAll, Retrieving, Throwing, True, Within, form}
 use Rattle.plsearch.specs.Lists.{bind_goals, levels}
 use Rattle.plsearch.specs.Lookups.{retrieve, seek}

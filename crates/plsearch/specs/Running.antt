@@ -2,7 +2,7 @@
 use Rattle.std.specs.Prelude.{ℕ, nat_le, List, [], ◌∷◌, ◌++◌, length, Option, Some, None, if◌then◌else◌}
 use Rattle.plterm.specs.Tree.{Tree, var, int, atom, compound, trees, list_of}
 use Rattle.plclause.specs.Conversion.{converted}
-use Rattle.plsearch.specs.Errors.{instantiation_error, callable_error, arity_error}
+use Rattle.plerror.specs.Errors.{instantiation_error, callable_error, arity_error}
 
 -- the goal that it converts to, or an error
 pub data Runnable : Type 0 where

@@ -9,7 +9,7 @@ use Rattle.plcells.specs.Store.{IsValue, value}
 use Rattle.plprogram.specs.Program.{Program}
 use Rattle.plsearch.specs.Types.{Goal, Element, Case, Choice, Throw, Kept}
 use Rattle.plsearch.specs.Collecting.{dropped, kept_below}
-use Rattle.plsearch.specs.Errors.{error_term}
+use Rattle.plerror.specs.Errors.{error_term}
 use Rattle.plsearch.specs.Lists.{levels, bind_goals}
 use Rattle.plsearch.specs.Running.{Runs, Raises, runnable}
 use Rattle.plsearch.specs.Rows.{catch_3, catching}

@@ -18,7 +18,7 @@ use Rattle.plviews.specs.Views.{AreOrdered}
 use Rattle.plprogram.specs.Program.{Program}
 use Rattle.plsearch.specs.Types.{Throw, Element, Case, Choice}
 use Rattle.plsearch.specs.Types.{Goal as GoalOf}
-use Rattle.plsearch.specs.Errors.{error_term}
+use Rattle.plerror.specs.Errors.{error_term}
 use Rattle.plsearch.specs.Lists.{levels}
 use Rattle.plsearch.specs.Running.{runnable}
 use Rattle.plsearch.specs.Collecting.{with_copy}

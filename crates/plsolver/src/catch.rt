@@ -10,13 +10,14 @@ ghost use Rattle.plstack.specs.Levels.{FitsIn};
 ghost use Rattle.plmachine.specs.Machine.{depth_of};
 ghost use Rattle.plsolver.specs.Solver.{IsBack, Stays, Quiet, throws_to, Recovered, Rethrown};
 
-use crate::error;
 use crate::progress::Progress;
 use plcells::cell::Cell;
+use plerror::error;
 use pllinks::item::Portion;
 use pllinks::link::Continuation;
 use plmachine::machine::{Mode, Outcome};
 use plmachine::running::Ready;
+use plrefusals::predicate::Predicate;
 use plstack::frame::{Handler, Handling};
 use plterm::term::Term;
 use std::alloc::AllocError;
@@ -111,7 +112,7 @@ impl Progress {
         ensures walks { EndsWalks self.old.machine.stack self.new.machine.stack }
     {
         let alloc = self.machine.alloc;
-        let p = error::catch(alloc)?;
+        let p = Predicate::Catch.indicator(alloc)?;
         let ball = error::ball(alloc, error, &p)?;
         let levels = self.machine.stack.levels(alloc, list)?;
         self.machine.stack.close();

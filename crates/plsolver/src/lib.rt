@@ -4,7 +4,6 @@
 mod answers;
 mod begin;
 mod catch;
-mod error;
 mod fetch;
 pub mod laws;
 mod look;

@@ -25,15 +25,15 @@ ghost use Rattle.plsolver.specs.Asking.{activations, in_cases, FindAsked, Onward
 ghost use Rattle.plsolver.specs.Fetching.{like, mode_none, NoneInFront, NoneNames};
 ghost use Rattle.plsolver.specs.Solver.{latest_view, IsOf, Keeps, KeepsRest, PausesAt, Stays};
 
-use crate::error;
 use crate::progress::{Pause, Progress};
 use crate::step::spot_behind;
 use plcells::cell::Cell;
+use plerror::error;
 use plevent::ClauseName;
-use plmachine::indicator::indicator_of;
 use plmachine::machine::{Find, Mode, Outcome, Sought};
 use plmachine::sought::head_of;
 use plprogram::settings::Unknown;
+use plrefusals::value::indicator_of;
 use plstack::frame::{Spot, Use, Walk};
 use plstore::Cursor;
 use plterm::indicator::Indicator;
@@ -216,7 +216,7 @@ impl Progress {
                 Ok(())
             }
             Unknown::Error => {
-                let error = error::no_procedure(self.machine.alloc, p)?;
+                let error = error::procedure_error(self.machine.alloc, p)?;
                 let rest = self.machine.stack.visited();
                 self.machine.raise(error, p, rest)
             }

@@ -12,9 +12,10 @@ ghost use Rattle.planswers.specs.Answers.{IsThere, meant};
 
 use planswers::answer::Answer;
 use planswers::equation::are_together;
-use planswers::error::{atom, atom_error, outside_error, type_error};
+use planswers::error::{atom_error, outside_error, type_error};
 use plcells::cell::Cell;
 use plcells::heap::Heap;
+use plerror::error::atom;
 use plgenerator::equation::together;
 use plops::flag::Quotes;
 use plops::operator::Kind;

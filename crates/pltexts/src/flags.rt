@@ -11,12 +11,11 @@ ghost use Rattle.plterm.specs.Tree.{atom};
 
 use crate::current::{Pattern, current_flag, current_op};
 use planswers::answer::Answer;
-use planswers::error::{
-    self, domain_error, outside, permission_error, type_error, unbound, value_error, wrong_type,
-};
+use planswers::error::{outside, type_error, unbound, value_error, wrong_type};
 use planswers::list::{Elements, Tail, elements_of, is_partial, is_variable};
 use plcells::cell::Cell;
 use plcells::heap::Heap;
+use plerror::error::{self, domain_error, permission_error};
 use plnames::kind::Flags;
 use plops::error::OpError;
 use plops::operator::Kind;

@@ -2,7 +2,7 @@
 ghost use Rattle.std.specs.Prelude.{◌≡◌, ℕ, false, codes, map, IfOk};
 ghost use Rattle.plcells.specs.Store.{value, IsValue, AreValues};
 ghost use Rattle.plbuiltin.specs.Format.{format_to, control_text, directive as directive_of, pieces as pieces_in, pieces_of as pieces_of_text, listed_text, arguments_of, argument_text as argument_text_of, formatted as formatted_of};
-ghost use Rattle.plbuiltin.specs.Errors.{domain_error as domain_error_of};
+ghost use Rattle.plerror.specs.Errors.{domain_error as domain_error_of};
 ghost use Rattle.plbuiltin.specs.Texts.{text_in as text_in_term};
 ghost use Rattle.plnames.specs.declared.kind.Spelling.TheVariants.{Characters, Codes};
 ghost use Rattle.planswers.specs.Answers.{IsThere, meant};
@@ -10,11 +10,12 @@ ghost use Rattle.pltexts.specs.Format.{directive_as, piece_as, pieces_as, text_a
 
 use itoa::Buffer;
 use planswers::answer::Answer;
-use planswers::error::{self, domain_error, type_error};
+use planswers::error::type_error;
 use planswers::list::{Tail, elements_of, is_partial};
 use planswers::text::text_in;
 use plcells::cell::Cell;
 use plcells::heap::Heap;
+use plerror::error::{self, domain_error};
 use plnames::kind::Spelling;
 use plorder::shape::{Shape, shape_of};
 use plprogram::settings::Settings;

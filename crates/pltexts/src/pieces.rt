@@ -15,13 +15,12 @@ ghost use Rattle.planswers.specs.Answers.{IsThere, meant};
 use itoa::Buffer;
 use planswers::answer::Answer;
 use planswers::equation::{are_terms, is_term};
-use planswers::error::{
-    atom, atom_error, instantiation_error, outside_error, type_error, unbound, wrong_type,
-};
+use planswers::error::{atom_error, outside_error, type_error, unbound, wrong_type};
 use planswers::list::is_variable;
 use planswers::text::atom_of;
 use plcells::cell::Cell;
 use plcells::heap::Heap;
+use plerror::error::{atom, instantiation_error};
 use plgenerator::argument::text_of;
 use plgenerator::equation::{part_equation, split_equation};
 use plgenerator::part::all_parts;

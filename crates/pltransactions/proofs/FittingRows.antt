@@ -26,11 +26,10 @@ use Rattle.plnames.specs.declared.kind.Side.{Side}
 use Rattle.plprogram.specs.Program.{Program, clauses_for}
 use Rattle.plprogram.specs.declared.settings.Unknown.{Unknown}
 use Rattle.plprogram.specs.declared.settings.Unknown.TheVariants as unknown
-use Rattle.plbuiltin.specs.Errors.{type_error}
+use Rattle.plerror.specs.Errors.{type_error, error_term}
 use Rattle.plbuiltin.specs.Lists.{may_be_list}
 use Rattle.plbuiltin.specs.Solution.{Solution, Solved, Gives, Raises as Refuses}
 use Rattle.plbuiltin.specs.Solutions.{solutions}
-use Rattle.plsearch.specs.Errors.{error_term}
 use Rattle.plsearch.specs.Types.{Fail, Throw, Halted, Stopped, Unfit, Commit, Never, Until, Collect, Transact, Then, GoesOn, Ends, Lookup, ToCall, ToRetrieve, ToRetract, ToRetractAll, Question, Look, Begin, Await, Erase, Element, Goal, Marker, Asking, Resolvent, Case, Choice, Mark, Local, Move, Give, Go}
 use Rattle.plsearch.specs.Lists.{bind_goals, levels}
 use Rattle.plsearch.specs.Forms.{Form, True, False, Both, Either, IfThenElse, Not, Once, Catching, FindAll, Within, Throwing, CallWith, Cut, Halting, Adding, Retrieving, Retracting, RetractingAll, Declaring, BuiltIn, Call, NoGoal, form}

@@ -23,7 +23,7 @@ use Rattle.plsearch.specs.Lists.{bind_goals, levels}
 use Rattle.plsearch.specs.Running.{Runnable, Runs, Raises, runnable}
 use Rattle.plsearch.specs.Collecting.{copies_from, dropped, gathered}
 use Rattle.plsearch.specs.Moves.{publishing}
-use Rattle.plsearch.specs.Errors.{error_term}
+use Rattle.plerror.specs.Errors.{error_term}
 use Rattle.plsearch.specs.Rows.{catch_3, select, asked, erasing, published, meet, solved}
 use Rattle.plsearch.specs.Replies.{answered, founded}
 use Rattle.plsearch.specs.Handlers.{has, recovers, met_by, goes_on, undone, resume}

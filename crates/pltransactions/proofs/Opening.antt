@@ -26,7 +26,7 @@ use Rattle.plnames.specs.declared.kind.Side.{Side}
 use Rattle.plprogram.specs.Program.{Program, clauses_for}
 use Rattle.plprogram.specs.declared.settings.Unknown.{Unknown}
 use Rattle.plprogram.specs.declared.settings.Unknown.TheVariants as unknown
-use Rattle.plbuiltin.specs.Errors.{type_error}
+use Rattle.plerror.specs.Errors.{type_error}
 use Rattle.plbuiltin.specs.Lists.{may_be_list}
 use Rattle.plbuiltin.specs.Solution.{Solution, Solved, Gives, Raises as Refuses}
 use Rattle.plbuiltin.specs.Solutions.{solutions}

@@ -9,7 +9,7 @@ use Rattle.plbuiltin.specs.Solution.{unifies}
 use Rattle.planswers.proofs.Forwarding.{forwarded}
 use Rattle.std.proofs.lemmas.List.{length-map}
 use Rattle.platoms.specs.Names.{atom_at}
-use Rattle.plbuiltin.specs.Errors.{representation_error}
+use Rattle.plerror.specs.Errors.{representation_error}
 use Rattle.plbuiltin.specs.Solution.{Raises}
 use Rattle.plbuiltin.specs.Parts.{with_name}
 use Rattle.planswers.specs.Building.{solved_by, width}

@@ -2,7 +2,7 @@ use Rattle.std.proofs.Common.{◌≡◌, suc, ◌∷◌, ◌∙◌, ap, ap₂, s
 use Rattle.plterm.specs.Variables.{copied}
 use Rattle.plcells.specs.Store.{value}
 use Rattle.plsearch.specs.Types.{Goal, Marker, Raise, Transact}
-use Rattle.plsearch.specs.Errors.{error_term}
+use Rattle.plerror.specs.Errors.{error_term}
 use Rattle.plsearch.specs.Lists.{levels}
 use Rattle.plsearch.specs.Moves.{beginner, first_of}
 use Rattle.plstack.specs.Levels.{kinds, FitsIn}

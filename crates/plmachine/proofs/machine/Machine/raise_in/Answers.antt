@@ -1,6 +1,6 @@
 use Rattle.std.proofs.Common.{ap, ap₂, ◌∙◌, [], ◌∷◌}
 use Rattle.plsearch.specs.Types.{Choice, Throw}
-use Rattle.plsearch.specs.Errors.{error_term}
+use Rattle.plerror.specs.Errors.{error_term}
 use Rattle.plterm.specs.Variables.{copied}
 use Rattle.plstack.specs.Opening.{around_cases}
 use Rattle.plmachine.proofs.Raising.{named-in, raises-in}

@@ -1,7 +1,7 @@
 use Rattle.std.proofs.Common.{ap, ap₂, ◌∙◌, refl}
 use Rattle.plterm.specs.Variables.{copied}
 use Rattle.plsearch.specs.Types.{Throw}
-use Rattle.plsearch.specs.Errors.{error_term}
+use Rattle.plerror.specs.Errors.{error_term}
 use Rattle.plsolver.proofs.Catches.{closed-basis, closed-below, closed-named, rethrows}
 use Rattle.plsolver.proofs.Quiets.{db_in}
 use Rattle.plsolver.proofs.progress.Progress.rethrow.Goals as goal

@@ -1,0 +1,4 @@
+//! The error terms, each stated and made once.
+#![tactic(auto)]
+
+pub mod error;

@@ -1,0 +1,3 @@
+pub mod Predicates
+pub mod Values
+pub mod Naming
