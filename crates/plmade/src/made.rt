@@ -85,14 +85,19 @@ pub fn two_variables(alloc: Global, text: &str) -> Result<Term, Fail>
     Ok(copy)
 }
 
+/// The text of a term, quoted.
+pub fn text_of(alloc: Global, term: &Term) -> Result<String, AllocError> {
+    let operators = OpTable::iso(alloc)?;
+    let text = write_term(alloc, term, &operators, Style::Quoted)?;
+    String::from_utf8_lossy(alloc, &text)
+}
+
 /// The text of a value's term, quoted.
 pub fn shown(alloc: Global, heap: &Heap, v: Cell) -> Result<String, AllocError>
     requires { IsValue heap.now v }
 {
     let term = heap.take(alloc, v)?;
-    let operators = OpTable::iso(alloc)?;
-    let text = write_term(alloc, &term, &operators, Style::Quoted)?;
-    String::from_utf8_lossy(alloc, &text)
+    text_of(alloc, &term)
 }
 
 /// The text of what was made of a term and further arguments, or why nothing was.

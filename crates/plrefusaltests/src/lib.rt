@@ -1,0 +1,11 @@
+//! Tests of the error terms, and of what control constructs and the predicates on clauses refuse.
+#![tactic(auto)]
+
+#[cfg(test)]
+mod errors;
+#[cfg(test)]
+mod naming;
+#[cfg(test)]
+mod refusals;
+#[cfg(test)]
+mod values;
