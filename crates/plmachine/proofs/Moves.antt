@@ -180,6 +180,16 @@ moved-from P s t new m stay moved = record { plain = moved.plain; moved = moved-
 pub moved-grown : (P : Program) (s t new : Reached) (m m' : Move) → Grown s.stack t.stack → t ≡ record s { stack = t.stack } → m ≡ m' → Moved P t new m → Moved P s new m'
 moved-grown P s t new m m' g is same moved = subst (Moved P s new) same (moved-from P s t new m (grown-stays P s t g is) moved)
 
+-- the same of a move that is told by what stands below, the depth, the list, the variables and what the thread has
+pub moved-by-grown : (P : Program) (s t new : Reached) (m : List Stamped → ℕ → List Element → ℕ → Local → Move) (es fs : List Element) → Grown s.stack t.stack → t ≡ record s { stack = t.stack } → es ≡ fs →
+    MovedBy P t new (λ v. m (below_in v t) (depth_of t) es t.stack.env.count (local_of t)) → MovedBy P s new (λ v. m (below_in v s) (depth_of s) fs s.stack.env.count (local_of s))
+moved-by-grown P s t new m es fs g is goals moved =
+    moved-by-from P s t new _ (grown-stays P s t g is)
+    (moved-by-as P t new _ _ (λ v.
+    ap₂ (λ d es. m (below_in v t) d es t.stack.env.count (local_of t)) (grown-depth s t g) goals
+    ∙ ap₂ (λ n w. m (below_in v t) (depth_of s) fs n w) g.count (ap (λ x. local_of x) is)
+    ∙ ap (λ us. m us (depth_of s) fs s.stack.env.count (local_of s)) (below-as v s t (ap (λ x. x.layer) is))) moved)
+
 -- a list is visited, in more cases
 pub goes-at : (P : Program) (v : Views) (s new : Reached) (cs : List Case) (p : Resolvent) (w : Local) → IsPlain new.mode → mode_of new.mode new.stack ≡ At p → cases_in P v new ≡ cs ++ cases_in P v s → below_in v new ≡ below_in v s → local_of new ≡ w →
     (most left : ℕ) (answers : List Answer) → after P v s most left answers (Go cs p w) ≡ now P v new most left answers

@@ -2,7 +2,7 @@
 use Rattle.std.proofs.Common.{◌≡◌, ◌≤◌, ℕ, Bool, true, false, List, [], ◌∷◌, length, map, take, refl, sym, ap, ◌∙◌, subst, arith, if◌then◌else◌}
 use Rattle.std.specs.Prelude.{not}
 use Rattle.std.proofs.lemmas.List.{length-append, take-append-le}
-use Rattle.plevent.specs.Alive.{change_if}
+use Rattle.plevent.specs.Alive.{change_if, Stamped}
 use Rattle.plevent.specs.Search.{Answer, Ask}
 use Rattle.plevent.specs.declared.update.ClauseName.{ClauseName}
 use Rattle.plevent.specs.declared.update.Update.{Update}
@@ -16,8 +16,9 @@ use Rattle.pltx.specs.declared.target.Erasure.TheVariants.{Erased, Gone}
 use Rattle.plviews.specs.Layers.{Grows, Layered}
 use Rattle.plviews.proofs.Layering.{all-made-grows, made-grows}
 use Rattle.plprogram.specs.Program.{Program}
-use Rattle.plevent.specs.declared.request.Request.TheVariants.{EraseOne}
-use Rattle.plsearch.specs.Types.{Asking, Asks, Element, End, Fail, Give, Local, Meeting, Move, Pass, Question}
+use Rattle.plevent.specs.declared.request.Request.TheVariants.{EraseOne, Publish}
+use Rattle.plsearch.specs.Types.{Asking, Asks, Await, Element, End, Fail, Give, GoesOn, Local, Look, Lookup, Meeting, Move, Pass, Question}
+use Rattle.plsearch.specs.Lookups.{looked_up, seek, seen}
 use Rattle.plsearch.specs.Moves.{go_on, publish, publishing}
 use Rattle.plsearch.specs.Machines.Machine.{At, Rest, meets, move, turn}
 use Rattle.plsearch.specs.Rows.{erasing as erasing_row, meet}
@@ -46,6 +47,13 @@ publish-open us es n w some = ap (λ (b : Bool). if b then go_on es n (record w 
 pub publishing-none : (us : List Update) (es : List Element) → length us ≡ 0 → es ≡ publishing us es
 publishing-none [] es none = refl
 publishing-none (u ∷ us) es none = absurd (omega (arith, none))
+
+pub publishing-some : (us : List Update) (es : List Element) → (length us ≡ 0 → ⊥) → Asking (Await (Publish us) GoesOn) ∷ es ≡ publishing us es
+publishing-some [] es some = absurd (some refl)
+publishing-some (u ∷ us) es some = refl
+
+pub seek-closed : (below : List Stamped) (u : Lookup) (d : ℕ) (es : List Element) (n : ℕ) (w : Local) → any_open w.own ≡ false → go_on (Asking (Look u) ∷ es) n w ≡ seek below u d es n w
+seek-closed below u d es n w none = ap (λ (b : Bool). if b then looked_up (seen below w.own) u d es n w else go_on (Asking (Look u) ∷ es) n w) (sym none)
 
 -- ---- a machine with more own updates
 

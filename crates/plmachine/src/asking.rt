@@ -1,15 +1,14 @@
 //! The rows of halt/0 and halt/1 (ISO/IEC 13211-1 8.17).
 //!
 //! A row that is refused memory leaves the search where it was.
-ghost use Rattle.std.specs.Prelude.{◌≡◌, ℕ, List, ◌∷◌, Some, None, IfOk, IfSome, IfNone, OnOk, OnErr};
-ghost use Rattle.plterm.specs.Tree.{int};
+ghost use Rattle.std.specs.Prelude.{◌≡◌, ℕ, List, ◌∷◌, IfOk, OnOk, OnErr};
 ghost use Rattle.plcells.specs.Store.{value, IsValue};
 ghost use Rattle.plevent.specs.declared.request.Request.TheVariants.{HaltRun};
 ghost use Rattle.plsearch.specs.Types.{Element, Local, Asking, Await, Ends};
 ghost use Rattle.plsearch.specs.Moves.{go_on as went_on};
 ghost use Rattle.plsearch.specs.Rows.{halting, modulo_256};
 ghost use Rattle.plstack.specs.State.{goals_of, IsFit, IsList};
-ghost use Rattle.plmachine.specs.Asking.{ended_with, IsNoInteger};
+ghost use Rattle.plmachine.specs.Asking.{ended_with};
 ghost use Rattle.plmachine.specs.Machine.{local_of, Moved, Stays};
 ghost use Rattle.plprogram.specs.Program.{Program as Given};
 

@@ -1,5 +1,5 @@
 use Rattle.std.proofs.Common.{Some, ap, sym, ◌∙◌}
-use Rattle.plstack.proofs.Growing.{if_ok}
+use Rattle.plgoals.proofs.Joining.{if_ok}
 use Rattle.plrefusals.proofs.Declaring.{declared, lacks}
 use Rattle.plrefusals.proofs.naming.declared.Goals as goal
 

@@ -1,4 +1,4 @@
-use Rattle.std.proofs.Common.{refl, subst, sym}
+use Rattle.std.proofs.Common.{rules, refl, subst, sym}
 use Rattle.plmachine.specs.Machine.{Stays}
 use Rattle.plmachine.proofs.Moves.{grown-stays, on_err, on_err_map, stays-trans, stays_put}
 use Rattle.plmachine.proofs.machine.Machine.retract.Goals.{in-Some-neck, in-None+in_ok-body-in-None}
@@ -19,3 +19,9 @@ returns-clause-err c =
       | in-None+in_ok-body-in-None w ↦ subst (Stays P s) (sym w.self-is) (grown-stays P s (record s { stack = w.put_true.new.self }) (record { extends = w.put_true.ensures.stays; count = w.put_true.ensures.count }) refl)
     ]))
     (c.seek.ensures.err c.args.program.now)
+
+pub returns-in-Some-clause-ok : goal.returns-in-Some-clause-ok
+returns-in-Some-clause-ok c = let ok = c.raise_of.ensures.ok c.args.program.now c.requires.begun in search rules
+
+pub returns-clause-ok : goal.returns-clause-ok
+returns-clause-ok c = let ok = c.seek.ensures.ok c.args.program.now in search rules

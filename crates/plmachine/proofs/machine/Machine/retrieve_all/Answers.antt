@@ -40,3 +40,9 @@ returns-then-is_empty-clause-ok c =
     (moved-by-as P s c.seek.new.self _ _ (λ v. retrieving-none (below_in v s) (clauses_for P (indicator h)) (depth_of s) h b (goals_of s.stack c.args.rest) s.stack.env.count (local_of s)
     (ap length (sym cs) ∙ eqb-true _ 0 (sym c.is_empty.ensures ∙ c.if-is_empty.true))))
     (c.seek.ensures.ok c.args.program.now)
+
+pub returns-then-is_empty-clause-err : goal.returns-then-is_empty-clause-err
+returns-then-is_empty-clause-err c = c.seek.ensures.err c.args.program.now
+
+pub returns-clause-err : goal.returns-clause-err
+returns-clause-err c = c.tell.ensures.err c.args.program.now

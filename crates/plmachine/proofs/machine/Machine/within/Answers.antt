@@ -13,7 +13,7 @@ use Rattle.plmachine.specs.Machine.{depth_of, local_of, IsTied, Stays}
 use Rattle.plmachine.specs.Within.{entered}
 use Rattle.plmachine.proofs.Beginning.{begins-inside, begun-ended, begun-inner, entered-as, entry-fit, transaction_cases}
 use Rattle.plmachine.proofs.Levels.{depth-kinds, same-kinds, transact-fits, transact-goal}
-use Rattle.plmachine.proofs.Moves.{grown-depth, grown-stays, moved-grown, on_err, tied-as}
+use Rattle.plmachine.proofs.Moves.{grown-depth, grown-stays, moved-grown, on_err, tied-as, moved-as}
 use Rattle.plmachine.proofs.machine.Machine.within.Goals as goal
 
 pub returns-in_err-entry-clause-err : goal.returns-in_err-entry-clause-err
@@ -78,3 +78,10 @@ returns-in-Err-clause-err c P =
     ∙ ap (λ (o : Own). record { own = o; place = t.layer.place }) (begun-ended c.args.kind t.layer.own.base t.layer.own some) in
     subst (λ (x : Layered). Stays P s (record t { stack = c.open_transaction.new.self; layer = x })) (sym back)
     (subst (λ st. Stays P s (record t { stack = st })) (sym c.in-Err.ensures.err) (grown-stays P s t c.entry.ensures.grown c.entry.ensures.frame))
+
+pub returns-then-not-is_open-clause-ok : goal.returns-then-not-is_open-clause-ok
+returns-then-not-is_open-clause-ok c P =
+    let s = c.args.self.now in
+    moved-as P s c.ask.new.self _ _
+    (ap (λ b. if b then opened c.args.kind s.layer.own.base (value s.stack.env.heap c.args.goal) (depth_of s) (goals_of s.stack c.args.rest) s.stack.env.count (local_of s) else go_on (Asking (Begin c.args.kind (value s.stack.env.heap c.args.goal)) ∷ goals_of s.stack c.args.rest) s.stack.env.count (local_of s)) (sym (sym c.is_open.ensures ∙ c.if-not-is_open.true)))
+    (c.ask.ensures P)
