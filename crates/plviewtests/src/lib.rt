@@ -1,8 +1,10 @@
-//! Tests of own updates, of what is kept of them, and of views, from the public calls of plstore's drafts, pltx and plviews.
+//! Tests of keys, of records and drafts, of own updates, and of views, from the public calls of plevent, plstore, pltx and plviews.
 #![tactic(auto)]
 
 #[cfg(test)]
 mod drafts;
+#[cfg(test)]
+mod keys;
 #[cfg(test)]
 mod layers;
 #[cfg(test)]
