@@ -4,4 +4,8 @@
 #[cfg(test)]
 mod expressions;
 #[cfg(test)]
+mod functors;
+#[cfg(test)]
 mod made;
+#[cfg(test)]
+mod operands;

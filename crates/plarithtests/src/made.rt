@@ -64,7 +64,7 @@ fn in_clause(alloc: Global, term: &Term, count: u32) -> Result<Evaluated, AllocE
 }
 
 /// A number, or the text of an error's term.
-fn shown(alloc: Global, found: &Evaluated) -> Result<String, AllocError> {
+pub(crate) fn shown(alloc: Global, found: &Evaluated) -> Result<String, AllocError> {
     match found {
         Ok(x) => format!(in alloc; "{x}"),
         Err(error) => {

@@ -4,11 +4,21 @@
 #[cfg(test)]
 mod clauses;
 #[cfg(test)]
+mod errors;
+#[cfg(test)]
+mod lists;
+#[cfg(test)]
+mod looks;
+#[cfg(test)]
 mod made;
+#[cfg(test)]
+mod numbers;
 #[cfg(test)]
 mod programs;
 #[cfg(test)]
 mod reading;
+#[cfg(test)]
+mod settings;
 #[cfg(test)]
 mod tokens;
 #[cfg(test)]

@@ -157,7 +157,7 @@ fn token(alloc: Global, words: &mut Words, piece: &str, joined: bool) -> Result<
 
 /// The tokens of pieces with a space between them, each directly behind the one before it but for two spaces. A text
 /// in `"` is a list of codes, and one in backquotes a list of characters.
-fn input(alloc: Global, pieces: &str) -> Result<Input<'static>, Fail> {
+pub fn input(alloc: Global, pieces: &str) -> Result<Input<'static>, Fail> {
     let mut words = Words::new(alloc)?;
     let mut tokens = Vec::new(alloc);
     let mut joined = false;

@@ -4,6 +4,8 @@
 #[cfg(test)]
 mod bytes;
 #[cfg(test)]
+mod characters;
+#[cfg(test)]
 mod command_lines;
 #[cfg(test)]
 mod loading;

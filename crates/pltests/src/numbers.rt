@@ -1,11 +1,16 @@
 //! Names by number (platoms).
+ghost use Rattle.std.specs.Prelude.{IfOk};
+ghost use Rattle.platoms.specs.Names.{HasAtom};
+
 use platoms::names::{Functor, Names};
 use plterm::name::Name;
 use std::alloc::{AllocError, Global};
 use std::test::Fail;
 
 /// The number of a short name.
-fn number_of(alloc: Global, names: &mut Names, text: &str) -> Result<u32, AllocError> {
+fn number_of(alloc: Global, names: &mut Names, text: &str) -> Result<u32, AllocError>
+    ensures { IfOk result (λ a. HasAtom names.new a text.now) }
+{
     let name = Name::new(alloc, text)?;
     if name.len() > 65535 {
         return Err(AllocError);
@@ -36,6 +41,22 @@ fn names_by_number(rt: HostRuntime) -> Result<(), Fail> {
     let mut names = Names::new(alloc);
     assert_eq!(rt; number_of(alloc, &mut names, "a")?, 0);
     assert!(rt; functor_of(alloc, &mut names, "b")? == (1, 0, true));
+    Ok(())
+}
+
+/// Whether the number of a short name stands for that name.
+fn is_named(alloc: Global, names: &mut Names, text: &str) -> Result<bool, AllocError> {
+    let number = number_of(alloc, names, text)?;
+    Ok(names.atom_name(number).as_str() == text)
+}
+
+// A number stands for its name, also behind other ones.
+#[test]
+fn numbers_of_names(rt: HostRuntime) -> Result<(), Fail> {
+    let mut names = Names::new(rt.alloc());
+    for text in ["a", "", "é", "a", "[]"] {
+        assert!(rt; is_named(rt.alloc(), &mut names, text)?, "{text}");
+    }
     Ok(())
 }
 

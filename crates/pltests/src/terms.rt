@@ -6,8 +6,9 @@ use plterm::name::Name;
 use plterm::node::Node;
 use plterm::numbers::Numbers;
 use plterm::term::Term;
-use plterm::walk::{Shape, Terms};
+use plterm::walk::{Shape, TermRef, Terms};
 use std::alloc::{AllocError, Global};
+use std::cmp::Ordering;
 use std::test::Fail;
 
 /// The term f(X, a, Y), where the variables have these numbers.
@@ -150,5 +151,159 @@ fn nodes(rt: HostRuntime) -> Result<(), Fail> {
     let node = Node::Var(7);
     assert_eq!(rt; (node.arity(), node.name_len()), (0, 0));
     assert_eq!(rt; triple(alloc, 7, 3)?.root().alone().len(), 1);
+    Ok(())
+}
+
+/// The term of the nodes that a walk through a term adds, and that of its nodes as they are held.
+fn by_nodes(alloc: Global, term: &Term) -> Result<(Term, Term), AllocError> {
+    let mut nodes = Vec::new(alloc);
+    let mut terms = term.root().alone();
+    terms.copy_nodes(1, &mut nodes)?;
+    let held = TermRef::of(term.nodes()).copied(alloc)?;
+    Ok((Term::from_prefix(nodes), held))
+}
+
+// Both are the term again.
+#[test]
+fn terms_of_nodes(rt: HostRuntime) -> Result<(), Fail> {
+    let term = triple(rt.alloc(), 7, 3)?;
+    let (walked, held) = by_nodes(rt.alloc(), &term)?;
+    assert!(rt; term.is_same(&walked) && term.is_same(&held));
+    Ok(())
+}
+
+/// Adds the nodes of the first two terms, and gives how many terms are left.
+fn add_two(terms: &mut Terms<'_>, nodes: &mut Vec<Node>) -> Result<usize, Fail> {
+    if terms.len() < 2 {
+        return Err("fewer than two terms".into());
+    }
+    terms.copy_nodes(2, nodes)?;
+    Ok(terms.len())
+}
+
+// The first two arguments of f(V7, a, V3) have a node each, and the third is left.
+#[test]
+fn nodes_of_arguments(rt: HostRuntime) -> Result<(), Fail> {
+    let term = triple(rt.alloc(), 7, 3)?;
+    let mut nodes = Vec::new(rt.alloc());
+    match term.root().shape() {
+        Shape::Compound(_, mut args) => assert_eq!(rt; add_two(&mut args, &mut nodes)?, 1),
+        Shape::Var(_) | Shape::Int(_) | Shape::Atom(_) => assert!(rt; false, "a compound"),
+    }
+    assert!(rt; matches!(nodes.as_slice(), [Node::Var(7), Node::Atom(_)]));
+    Ok(())
+}
+
+/// A term, by its parts.
+#[derive(Clone, Copy)]
+enum Parts {
+    Var(u64),
+    Int(i64),
+    Atom(&'static str),
+    /// A compound of so many times this integer.
+    Compound(&'static str, usize, i64),
+}
+
+/// The compound of so many times an integer.
+fn compound(alloc: Global, name: &str, count: usize, value: i64) -> Result<Term, TermError> {
+    let mut args = Vec::new(alloc);
+    for _ in 0..count {
+        args.push(Term::int(alloc, value)?)?;
+    }
+    Term::compound(alloc, Name::new(alloc, name)?, args)
+}
+
+/// The term of these parts.
+fn of_parts(alloc: Global, parts: Parts) -> Result<Term, TermError> {
+    match parts {
+        Parts::Var(number) => Ok(Term::var(alloc, number)?),
+        Parts::Int(value) => Ok(Term::int(alloc, value)?),
+        Parts::Atom(name) => Term::atom(alloc, Name::new(alloc, name)?),
+        Parts::Compound(name, count, value) => compound(alloc, name, count, value),
+    }
+}
+
+/// Two terms, and how the first stands to the second: variables before integers, these before atoms, and these before
+/// compounds, which stand by their arity, then their name, and then their arguments (7.2).
+const ORDERED: [(Parts, Parts, Ordering); 12] = [
+    (Parts::Var(2), Parts::Var(10), Ordering::Less),
+    (Parts::Var(10), Parts::Int(-1), Ordering::Less),
+    (Parts::Int(-1), Parts::Int(-1), Ordering::Equal),
+    (Parts::Int(-1), Parts::Int(0), Ordering::Less),
+    (Parts::Int(9), Parts::Atom(""), Ordering::Less),
+    (Parts::Atom("b"), Parts::Atom("ab"), Ordering::Greater),
+    (Parts::Atom("z"), Parts::Compound("a", 1, 0), Ordering::Less),
+    (
+        Parts::Compound("b", 1, 9),
+        Parts::Compound("a", 2, 0),
+        Ordering::Less,
+    ),
+    (
+        Parts::Compound("b", 2, 0),
+        Parts::Compound("a", 2, 9),
+        Ordering::Greater,
+    ),
+    (
+        Parts::Compound("a", 2, 9),
+        Parts::Compound("a", 2, 0),
+        Ordering::Greater,
+    ),
+    (
+        Parts::Compound("a", 2, 9),
+        Parts::Compound("a", 2, 9),
+        Ordering::Equal,
+    ),
+    (Parts::Compound("a", 1, 9), Parts::Int(9), Ordering::Greater),
+];
+
+/// How a term of these parts stands to another one.
+fn compared_parts(alloc: Global, left: Parts, right: Parts) -> Result<Ordering, TermError> {
+    let left = of_parts(alloc, left)?;
+    let right = of_parts(alloc, right)?;
+    Ok(left.compare(&right))
+}
+
+#[test]
+fn order_of_terms(rt: HostRuntime) -> Result<(), Fail> {
+    for (left, right, order) in ORDERED {
+        let found = compared_parts(rt.alloc(), left, right)?;
+        assert!(rt; found == order);
+    }
+    Ok(())
+}
+
+/// Two names, and how the first stands to the second: by their characters, of which those past ASCII stand behind the
+/// others (7.2).
+const NAMES: [(&str, &str, Ordering); 6] = [
+    ("a", "a", Ordering::Equal),
+    ("a", "b", Ordering::Less),
+    ("ab", "a", Ordering::Greater),
+    ("", "a", Ordering::Less),
+    ("Z", "a", Ordering::Less),
+    ("é", "z", Ordering::Greater),
+];
+
+/// How a name stands to another one.
+fn compared_names(alloc: Global, left: &str, right: &str) -> Result<Ordering, AllocError> {
+    let left = Name::new(alloc, left)?;
+    let right = Name::new(alloc, right)?;
+    Ok(left.compare(&right))
+}
+
+#[test]
+fn order_of_names(rt: HostRuntime) -> Result<(), Fail> {
+    for (left, right, order) in NAMES {
+        let found = compared_names(rt.alloc(), left, right)?;
+        assert!(rt; found == order, "{left} {right}");
+    }
+    Ok(())
+}
+
+// A variable stands in f(V7, a, V3), and none in g(1, 1).
+#[test]
+fn ground_terms(rt: HostRuntime) -> Result<(), Fail> {
+    let open = triple(rt.alloc(), 7, 3)?;
+    let closed = compound(rt.alloc(), "g", 2, 1)?;
+    assert!(rt; !open.is_ground() && closed.is_ground());
     Ok(())
 }

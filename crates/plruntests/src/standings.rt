@@ -1,0 +1,58 @@
+//! What a journal says of the end of a run (plevent).
+use crate::made::clause;
+use plevent::standing::Standing;
+use plevent::{Batch, ThreadEnd, ThreadId, Update, WorkerId};
+use std::alloc::{AllocError, Global};
+use std::test::Fail;
+
+/// What main does once it is started.
+#[derive(Clone, Copy, Debug)]
+enum Act {
+    Publish,
+    Halt,
+    Leave,
+    End,
+}
+
+/// One more entry: what main does.
+fn act_in(standing: &mut Standing, act: Act) {
+    standing.start(WorkerId::FIRST, ThreadId::MAIN);
+    match act {
+        Act::Publish => standing.publish(),
+        Act::Halt => standing.halt(3),
+        Act::Leave => standing.leave(ThreadId::MAIN),
+        Act::End => standing.end(ThreadId::MAIN, ThreadEnd::False),
+    }
+}
+
+/// Whether a thread has ended the run, and whether each thread was started and has ended, behind what main does.
+fn ended(alloc: Global, act: Act) -> Result<(bool, bool), AllocError> {
+    let mut standing = Standing::blank(alloc)?;
+    act_in(&mut standing, act);
+    Ok((standing.is_halted(), standing.threads.are_settled()))
+}
+
+/// What main does, and both.
+const ENDED: [(Act, bool, bool); 4] = [
+    (Act::Publish, false, false),
+    (Act::Halt, true, false),
+    (Act::Leave, false, false),
+    (Act::End, false, true),
+];
+
+// Main ends the run by halt alone, and is settled by its own end alone.
+#[test]
+fn ends_of_runs(rt: HostRuntime) -> Result<(), Fail> {
+    for (act, halted, settled) in ENDED {
+        assert!(rt; ended(rt.alloc(), act)? == (halted, settled), "{act:?}");
+    }
+    Ok(())
+}
+
+// A batch of one update has that one.
+#[test]
+fn batch_of_one(rt: HostRuntime) -> Result<(), Fail> {
+    let batch = Batch::of(Update::First(clause(rt.alloc(), "a")?));
+    assert!(rt; matches!(batch.as_slice(), [Update::First(_)]));
+    Ok(())
+}

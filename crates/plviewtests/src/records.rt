@@ -1,0 +1,73 @@
+//! Clauses that are kept with the places of their batches (plstore).
+use crate::made::{fact, name};
+use plstore::Record;
+use plterm::error::TermError;
+use plterm::indicator::Indicator;
+use plterm::name::Name;
+use std::alloc::{AllocError, Global};
+use std::test::Fail;
+
+/// The fact p(1), made at 3, and erased at a place, if it was.
+fn record(alloc: Global, erased: Option<u64>) -> Result<Record, TermError> {
+    let clause = fact(alloc, Some(1))?;
+    Ok(Record {
+        name: name(3, 0),
+        clause,
+        front: false,
+        erased,
+    })
+}
+
+/// Where the record was erased, a time, and whether it is seen then.
+const SEEN: [(Option<u64>, u64, bool); 6] = [
+    (None, 3, false),
+    (None, 4, true),
+    (Some(5), 3, false),
+    (Some(5), 4, true),
+    (Some(5), 5, true),
+    (Some(5), 6, false),
+];
+
+/// Whether the record is seen at a time.
+fn is_seen(alloc: Global, erased: Option<u64>, g: u64) -> Result<bool, TermError> {
+    let record = record(alloc, erased)?;
+    Ok(record.is_seen(g))
+}
+
+// A clause is seen by who sees its batch and not that of its erasure.
+#[test]
+fn records_in_time(rt: HostRuntime) -> Result<(), Fail> {
+    for (erased, g, seen) in SEEN {
+        assert!(rt;
+            is_seen(rt.alloc(), erased, g)? == seen,
+            "{erased:?} at {g}"
+        );
+    }
+    Ok(())
+}
+
+/// A procedure, and whether p(1) belongs to it.
+const PROCEDURES: [(&str, u16, bool); 4] = [
+    ("p", 1, true),
+    ("p", 0, false),
+    ("p", 2, false),
+    ("q", 1, false),
+];
+
+/// Whether a record's clause belongs to a procedure.
+fn is_of(alloc: Global, record: &Record, name: &str, arity: u16) -> Result<bool, AllocError> {
+    let name = Name::new(alloc, name)?;
+    Ok(record.is_of(&Indicator { name, arity }))
+}
+
+#[test]
+fn records_of_procedures(rt: HostRuntime) -> Result<(), Fail> {
+    let record = record(rt.alloc(), None)?;
+    for (name, arity, is) in PROCEDURES {
+        assert!(rt;
+            is_of(rt.alloc(), &record, name, arity)? == is,
+            "{name}/{arity}"
+        );
+    }
+    Ok(())
+}
