@@ -4,11 +4,17 @@
 #[cfg(test)]
 mod clauses;
 #[cfg(test)]
+mod indicators;
+#[cfg(test)]
 mod made;
+#[cfg(test)]
+mod parts;
 #[cfg(test)]
 mod programs;
 #[cfg(test)]
 mod reading;
+#[cfg(test)]
+mod sequences;
 #[cfg(test)]
 mod tokens;
 #[cfg(test)]
