@@ -80,7 +80,11 @@ fn shared(alloc: Global, text: &str) -> Result<String, Fail> {
 /// Heads and bodies, and the clauses of them: variables are 0, 1, .. by first occurrence, those of the head first.
 const CLAUSES: [(&str, &str, &str); 4] = [
     ("p", "q", "p <- q, 0 variables"),
-    ("p(X, Y)", "q(X), Y", "p/2 _0 _1 <- ,/2 q/1 _0 call/1 _1, 2 variables"),
+    (
+        "p(X, Y)",
+        "q(X), Y",
+        "p/2 _0 _1 <- ,/2 q/1 _0 call/1 _1, 2 variables",
+    ),
     ("p(a)", "q(X, Y, X)", "p/1 a <- q/3 _0 _1 _0, 2 variables"),
     ("f(X)", "X ; a", "f/1 _0 <- ;/2 call/1 _0 a, 1 variables"),
 ];

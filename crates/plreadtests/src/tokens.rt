@@ -8,7 +8,7 @@ use pllex::item::item_at;
 use pllex::layout::{Gap, gap_at};
 use pllex::quoted::{Quote, Quoted, is_control, mark, quoted_end};
 use pllex::runs::{is_layout, run_end};
-use pllex::token::{Base, Class, Fault, Scanned, Kind, Token};
+use pllex::token::{Base, Class, Fault, Kind, Scanned, Token};
 use pllex::value::{has_value, value_of};
 use plterm::characters::is_symbol;
 use std::alloc::{AllocError, Global};
