@@ -28,7 +28,7 @@ use std::string::String;
 use std::test::Fail;
 
 /// The word of a step.
-fn word(op: &Op) -> &'static str {
+pub(crate) fn word(op: &Op) -> &'static str {
     match op {
         Op::Goal => "goal",
         Op::Or(_, _) => "or",
@@ -64,7 +64,7 @@ fn body_in(alloc: Global, code: &mut Draft, body: &Term) -> Result<String, Fail>
 }
 
 /// The term of a goal.
-fn goal(alloc: Global, text: &str) -> Result<Term, Fail> {
+pub(crate) fn goal(alloc: Global, text: &str) -> Result<Term, Fail> {
     match read_goal(alloc, text)? {
         Some(goal) => Ok(goal),
         None => Err("no goal".into()),
@@ -93,7 +93,7 @@ const BODIES: [(&str, &str); 9] = [
 ];
 
 /// The word of a key.
-fn key_word(alloc: Global, key: Key) -> Result<String, AllocError> {
+pub(crate) fn key_word(alloc: Global, key: Key) -> Result<String, AllocError> {
     match key {
         Key::Any => "any".to_string(alloc),
         Key::Int(number) => format!(in alloc; "{number}"),
@@ -219,7 +219,7 @@ fn put_node(found: &mut String, node: &Node) -> Result<(), Fail> {
 }
 
 /// The text of nodes.
-fn nodes_text(alloc: Global, nodes: &[Node]) -> Result<String, Fail> {
+pub(crate) fn nodes_text(alloc: Global, nodes: &[Node]) -> Result<String, Fail> {
     let mut found = String::new(alloc);
     for node in nodes {
         put_node(&mut found, node)?;

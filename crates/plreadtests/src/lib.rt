@@ -6,6 +6,8 @@ mod clauses;
 #[cfg(test)]
 mod errors;
 #[cfg(test)]
+mod indicators;
+#[cfg(test)]
 mod lists;
 #[cfg(test)]
 mod looks;
@@ -14,9 +16,13 @@ mod made;
 #[cfg(test)]
 mod numbers;
 #[cfg(test)]
+mod parts;
+#[cfg(test)]
 mod programs;
 #[cfg(test)]
 mod reading;
+#[cfg(test)]
+mod sequences;
 #[cfg(test)]
 mod settings;
 #[cfg(test)]

@@ -1,0 +1,183 @@
+//! Machines at a goal.
+ghost use Rattle.std.specs.Prelude.{◌≡◌, ◌++◌, ◌∷◌, [], IfOk, OnOk};
+ghost use Rattle.plcells.specs.Store.{AreValues, IsValue, value};
+ghost use Rattle.plcode.specs.Callees.{IsProgramCode};
+ghost use Rattle.plsearch.specs.Types.{Goal};
+ghost use Rattle.plterm.specs.Variables.{copied};
+ghost use Rattle.plstack.specs.State.{goals_of, Extends, IsList};
+ghost use Rattle.plmachinemade.specs.Ready.{IsBlank, IsCall, IsFirstGoal, IsReady};
+
+use plcells::cell::Cell;
+use plcode::callee::Number;
+use plcode::program::ProgramCode;
+use plcollect::collection::Collection;
+use plenv::env::Environment;
+use plgoals::callable::arguments_of;
+use pllinks::item::Portion;
+use pllinks::level::Level;
+use pllinks::link::Continuation;
+use plload::goal::read_goal;
+use plload::load::load;
+use plmachine::machine::{Machine, Mode};
+use plprogram::program::Program;
+use plstack::first::First;
+use plstack::stack::Stack;
+use plterm::name::Name;
+use plterm::term::Term;
+use plviews::Layer;
+use std::alloc::{AllocError, Global};
+use std::test::Fail;
+
+/// The program of all machines: procedures of the text, and a dynamic one.
+const TEXT: &str = "
+    :- dynamic(d/1). d(1).
+    p(1). p(X) :- q, r(X).
+    q.
+    r(or) :- a ; b. r(then) :- a -> b. r(else) :- a -> b ; c. r(both) :- q, b. r(X) :- X = x, b.
+";
+
+/// That program.
+pub fn program(alloc: Global) -> Result<Program, Fail> {
+    Ok(load(alloc, TEXT.as_bytes())?)
+}
+
+/// An environment with nothing in it, of the names of a program's code.
+fn environment_of(alloc: Global, code: &ProgramCode) -> Result<Environment, AllocError>
+    ensures { IfOk result (λ env. env.heap.names ≡ code.now.text.names) }
+{
+    let names = code.names().copied(alloc)?;
+    Ok(Environment::new(alloc, names))
+}
+
+/// A stack with nothing on it, of a program's code.
+fn empty(alloc: Global, program: &Program) -> Result<Stack, AllocError>
+    ensures blank { IfOk result (λ s. IsBlank s) }
+    ensures code { IfOk result (λ s. IsProgramCode program.now s.basis.code) }
+{
+    let code = ProgramCode::new(alloc, program)?;
+    let env = environment_of(alloc, &code)?;
+    Stack::new(alloc, code, env)
+}
+
+/// Puts a term before a list, as a goal of the level below all cases.
+fn link(
+    stack: &mut Stack,
+    alloc: Global,
+    goal: &Term,
+    list: Continuation,
+) -> Result<Continuation, AllocError>
+    requires { IsList stack.old list }
+    ensures there { IfOk result (λ l. IsList stack.new l) }
+    ensures goals { IfOk result (λ l. goals_of stack.new l ≡ Goal 0 (copied stack.old.env.count goal.now) ∷ goals_of stack.old list) }
+    ensures stays { Extends stack.old stack.new }
+{
+    let v = stack.put_copy(alloc, goal)?;
+    stack.link(Portion::Goal(Level::BOTTOM, v), list)
+}
+
+/// Visits a goal and behind it the goal `z`, in a choice with nothing left.
+fn visit(stack: &mut Stack, alloc: Global, goal: &Term) -> Result<(), Fail>
+    requires { IsBlank stack.old }
+    ensures { OnOk result (stack.new.basis ≡ stack.old.basis) }
+{
+    let last = Term::atom(alloc, Name::new(alloc, "z")?)?;
+    let none = stack.visited();
+    let list = link(stack, alloc, &last, none)?;
+    let list = link(stack, alloc, goal, list)?;
+    stack.open_plain()?;
+    stack.visit(list);
+    Ok(())
+}
+
+/// The goal of a text.
+fn goal_of(alloc: Global, text: &str) -> Result<Term, Fail> {
+    match read_goal(alloc, text)? {
+        Some(goal) => Ok(goal),
+        None => Err("no goal".into()),
+    }
+}
+
+/// A machine of a program at the goal of a text, behind which there is the goal `z`.
+pub fn machine(alloc: Global, program: &Program, text: &str) -> Result<Machine, Fail>
+    ensures { IfOk result (λ s. IsReady program.now s) }
+{
+    let goal = goal_of(alloc, text)?;
+    let mut stack = empty(alloc, program)?;
+    visit(&mut stack, alloc, &goal)?;
+    let settings = program.settings().copied(alloc)?;
+    Ok(Machine {
+        alloc,
+        stack,
+        layer: Layer::new(alloc),
+        mode: Mode::Visit,
+        out: Vec::new(alloc),
+        settings,
+        kept: Collection::new(alloc),
+        args: Vec::new(alloc),
+    })
+}
+
+/// The goal that a machine visits first: its level, its value, the number by which it is called, the values of its arguments, and the list behind
+/// it.
+#[derive(Drop)]
+pub struct Selection {
+    pub level: Level,
+    pub goal: Cell,
+    pub number: Number,
+    pub args: Vec<Cell>,
+    pub rest: Continuation,
+}
+
+/// The goal that a machine visits first.
+pub fn selection(machine: &Machine) -> Result<Selection, Fail>
+    ensures first { IfOk result (λ x. IsFirstGoal machine.now.stack x.level x.goal x.rest) }
+    ensures call { IfOk result (λ x. IsCall machine.now.stack x.goal x.number x.args.items) }
+{
+    let First::Goal(level, goal, rest) = machine.stack.first() else {
+        return Err("no goal is first".into());
+    };
+    let heap = machine.stack.env().heap();
+    let mut args = Vec::new(machine.alloc);
+    let Some(number) = arguments_of(heap, goal, &mut args)? else {
+        return Err("not callable".into());
+    };
+    Ok(Selection {
+        level,
+        goal,
+        number,
+        args,
+        rest,
+    })
+}
+
+/// Visits a goal in place of that which is visited first.
+pub fn visit_goal(machine: &mut Machine, goal: Cell) -> Result<(), Fail>
+    requires { IsValue machine.old.stack.env.heap goal }
+{
+    let first = selection(machine)?;
+    let list = machine
+        .stack
+        .link(Portion::Goal(first.level, goal), first.rest)?;
+    machine.go_on(list);
+    Ok(())
+}
+
+/// The one argument of a goal.
+pub fn one(args: &[Cell]) -> Result<Cell, Fail>
+    ensures { IfOk result (λ a. args.now ≡ a ∷ []) }
+{
+    match args {
+        [a] => Ok(*a),
+        _ => Err("no one argument".into()),
+    }
+}
+
+/// The two arguments of a goal.
+pub fn two(args: &[Cell]) -> Result<(Cell, Cell), Fail>
+    ensures { IfOk result (λ r. args.now ≡ r.0 ∷ r.1 ∷ []) }
+{
+    match args {
+        [a, b] => Ok((*a, *b)),
+        _ => Err("no two arguments".into()),
+    }
+}
