@@ -1,8 +1,6 @@
-//! Tests of the error terms, and of what control constructs and the predicates on clauses refuse.
+//! Tests of what control constructs and the predicates on clauses refuse.
 #![tactic(auto)]
 
-#[cfg(test)]
-mod errors;
 #[cfg(test)]
 mod naming;
 #[cfg(test)]
