@@ -6,15 +6,14 @@ use Rattle.plsolver.proofs.progress.Progress.fetched.Goals as goal
 
 pub returns-in_default : goal.returns-in_default
 returns-in_default c =
-    let P = c.requires.of.0 in
     let s = c.args.self.now.machine in
     let e = c.fetched_walk.ensures in
     record {
-      ok = on_ok_map c.fetched_walk.result (λ f v ordered g q fetches told. f P v ordered g q (walks-on s g q c.in_default.not-Find fetches) told) e.ok;
-      of = e.of P c.requires.of.1;
+      ok = λ P b. on_ok_map c.fetched_walk.result (λ f v ordered g q fetches told. f P v ordered g q (walks-on s g q c.in_default.not-Find fetches) told) e.ok;
+      of = e.of;
       latest = e.latest;
       frame = e.frame;
-      err = on_err_map c.fetched_walk.result (λ f. f P) e.err;
+      err = λ P b. on_err_map c.fetched_walk.result (λ f. f P) e.err;
       asked = on_ok_map c.fetched_walk.result (λ f v ordered g q fetches told. f v ordered g q (walks-on s g q c.in_default.not-Find fetches) told) e.asked;
     }
 

@@ -10,9 +10,9 @@ use Rattle.plsolver.proofs.progress.Progress.find.Goals as goal
 pub returns-in_default : goal.returns-in_default
 returns-in_default c =
     record {
-      keeps = keeps_same c.requires.of.0 c.args.self.now;
+      keeps = λ P b. keeps_same P c.args.self.now;
       plain = plain-without c.args.self.now.machine.mode c.in_default.not-Find;
-      due = tt;
+      due = λ P b. tt;
       walks = onward_ends c.args.self.now.machine c.args.self.now.machine.stack (ends_refl _);
       asks = onward_refl 0 (activations c.args.self.now.machine);
     }

@@ -33,16 +33,15 @@ pub sweep-requires-clause-sweeps : goal.sweep-requires-clause-sweeps
 sweep-requires-clause-sweeps c = let b = c.begin_sweep.ensures in (c.args.head, b.0, ap (λ x. x.machine.mode) b.1)
 
 pub returns-clause-keeps : goal.returns-clause-keeps
-returns-clause-keeps c P b =
+returns-clause-keeps c P of =
     let s = c.args.self.now in
     let b = c.begin_sweep.ensures in
     let mid = record s { machine = record s.machine { mode = modes.Find (finds.Sweep c.args.head b.0) } } in
     let named = sym c.in_ok-is_named.ensures ∙ c.if-not-branch.false in
-    keeps_trans P s c.begin_sweep.new.self c.sweep.new.self
-    (subst (Keeps P s) (sym b.1)
+    let begun : Keeps P s c.begin_sweep.new.self = subst (Keeps P s) (sym b.1)
     (finds_keeps P s mid (finds.All c.args.head c.args.view) c.requires.finds refl refl (all-of P s.machine c.args.head c.args.view b.0 c.requires.finds b.2)
-    (λ v ordered. all-swept P v ordered s.machine c.args.head c.args.view c.requires.finds true (sym (named-exists v s.machine.layer.own.updates c.args.view (indicator (value s.machine.stack.env.heap c.args.head)) named)) b.0 b.2 b.3 b.4 refl)))
-    (c.sweep.ensures.keeps P b)
+    (λ v ordered. all-swept P v ordered s.machine c.args.head c.args.view c.requires.finds true (sym (named-exists v s.machine.layer.own.updates c.args.view (indicator (value s.machine.stack.env.heap c.args.head)) named)) b.0 b.2 b.3 b.4 refl)) in
+    keeps_trans P s c.begin_sweep.new.self c.sweep.new.self begun (c.sweep.ensures.keeps P (begun.of of))
 
 pub returns-then-not-branch-clause-asks : goal.returns-then-not-branch-clause-asks
 returns-then-not-branch-clause-asks c = onward_refl 0 (activations c.args.self.now.machine)

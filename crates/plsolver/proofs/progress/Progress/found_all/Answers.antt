@@ -1,4 +1,4 @@
-use Rattle.std.proofs.Common.{refl, sym, subst, ◌∙◌}
+use Rattle.std.proofs.Common.{rules, refl, sym, subst, ◌∙◌}
 use Rattle.plcells.specs.Store.{value}
 use Rattle.plclause.specs.Indicators.{indicator}
 use Rattle.plstore.specs.declared.query.Query.{Query}
@@ -42,3 +42,21 @@ returns-clause-ok c P b =
 
 pub returns-clause-asked : goal.returns-clause-asked
 returns-clause-asked c = on_ok_map c.declare_one.result (λ m v. all-ends v c.args.head c.args.view c.args.self.now.machine c.declare_one.new.self m.plain m.moved.walks) (c.declare_one.ensures.ok c.requires.of.0)
+
+pub returns-clause-of : goal.returns-clause-of
+returns-clause-of c P b =
+    let ok = c.declare_one.ensures.ok P in
+    let err = c.declare_one.ensures.err P in
+    search rules
+
+pub returns-clause-latest : goal.returns-clause-latest
+returns-clause-latest c =
+    let ok = c.declare_one.ensures.ok c.requires.of.0 in
+    let err = c.declare_one.ensures.err c.requires.of.0 in
+    search rules
+
+pub returns-clause-err : goal.returns-clause-err
+returns-clause-err c P b =
+    let ok = c.declare_one.ensures.ok P in
+    let err = c.declare_one.ensures.err P in
+    search rules

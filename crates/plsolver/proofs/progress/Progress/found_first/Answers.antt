@@ -1,4 +1,4 @@
-use Rattle.std.proofs.Common.{refl, sym, ap, ◌∙◌, inl, subst}
+use Rattle.std.proofs.Common.{rules, refl, sym, ap, ◌∙◌, inl, subst}
 use Rattle.plstore.specs.declared.record.Cursor.TheVariants.{Start}
 use Rattle.plviews.specs.declared.lookup.Reach.TheVariants as reaches
 use Rattle.plstack.specs.declared.frame.Spot.TheVariants as spots
@@ -53,3 +53,21 @@ returns-in-None-clause-asked c = λ v ordered told.
     let s = c.args.self.now.machine in
     let step = subst (λ h. StepsFound s.layer.own.updates h c.args.view c.args.found c.in_ok-step.step) (rw (c.heap-heap.ensures.is, c.env.ensures) at c.head_of-head.ensures.is) c.in_ok-step.ensures in
     first-none v c.args.sought c.args.view s (record s { mode = c.mode_without.result }) (ordered.ordered c.args.view.place) c.args.found (sym told) c.in_ok-step.step step.leads (sym c.spot_behind.ensures ∙ c.in-None.is) (ap (λ m. record s { mode = m }) c.mode_without.ensures)
+
+pub returns-in-Some-clause-of : goal.returns-in-Some-clause-of
+returns-in-Some-clause-of c P b =
+    let ok = c.walk_from.ensures.ok P in
+    let err = c.walk_from.ensures.err P in
+    search rules
+
+pub returns-in-Some-clause-latest : goal.returns-in-Some-clause-latest
+returns-in-Some-clause-latest c =
+    let ok = c.walk_from.ensures.ok c.requires.of.0 in
+    let err = c.walk_from.ensures.err c.requires.of.0 in
+    search rules
+
+pub returns-in-Some-clause-err : goal.returns-in-Some-clause-err
+returns-in-Some-clause-err c P b =
+    let ok = c.walk_from.ensures.ok P in
+    let err = c.walk_from.ensures.err P in
+    search rules

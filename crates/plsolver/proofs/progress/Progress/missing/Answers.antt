@@ -1,4 +1,4 @@
-use Rattle.std.proofs.Common.{sym, subst, refl}
+use Rattle.std.proofs.Common.{rules, sym, subst, refl}
 use Rattle.plsearch.specs.Lookups.{missing}
 use Rattle.plstack.specs.State.{goals_of}
 use Rattle.plmachine.specs.declared.machine.Outcome.TheVariants as outcomes
@@ -25,3 +25,15 @@ pub returns-in_ok-error-in-Error-clause-of : goal.returns-in_ok-error-in-Error-c
 returns-in_ok-error-in-Error-clause-of c P b =
     let s = c.args.self.now.machine in
     either_of P s c.raise.new.self _ c.raise.result b (finds-last s.mode c.requires.seeks.0 c.requires.seeks.1) (on_ok_map c.raise.result (λ m. m.moved) (c.raise.ensures.ok P)) (c.raise.ensures.err P)
+
+pub returns-in_ok-error-in-Error-clause-ok : goal.returns-in_ok-error-in-Error-clause-ok
+returns-in_ok-error-in-Error-clause-ok c P b = let ok = c.raise.ensures.ok P in search rules
+
+pub returns-in_ok-error-in-Error-clause-latest : goal.returns-in_ok-error-in-Error-clause-latest
+returns-in_ok-error-in-Error-clause-latest c =
+    let ok = c.raise.ensures.ok c.requires.of.0 in
+    let err = c.raise.ensures.err c.requires.of.0 in
+    search rules
+
+pub returns-in_ok-error-in-Error-clause-err : goal.returns-in_ok-error-in-Error-clause-err
+returns-in_ok-error-in-Error-clause-err c P b = let err = c.raise.ensures.err P in search rules

@@ -1,4 +1,4 @@
-use Rattle.std.proofs.Common.{refl, subst, sym, ◌∙◌}
+use Rattle.std.proofs.Common.{rules, refl, subst, sym, ◌∙◌}
 use Rattle.std.specs.Prelude.{OnOk}
 use Rattle.plsearch.specs.Moves.{publish}
 use Rattle.plstack.specs.State.{goals_of}
@@ -21,3 +21,27 @@ returns-clause-ok c P b =
       },
     ))
     (subst (λ l. OnOk c.publish.result (Moved P s c.publish.new.self (publish us (goals_of s.stack l) s.stack.env.count (local_of s)))) c.visited-rest.ensures.is (c.publish.ensures.ok P))
+
+pub returns-clause-of : goal.returns-clause-of
+returns-clause-of c P b =
+    let ok = c.publish.ensures.ok P in
+    let err = c.publish.ensures.err P in
+    search rules
+
+pub returns-clause-latest : goal.returns-clause-latest
+returns-clause-latest c =
+    let ok = c.publish.ensures.ok c.requires.of.0 in
+    let err = c.publish.ensures.err c.requires.of.0 in
+    search rules
+
+pub returns-clause-err : goal.returns-clause-err
+returns-clause-err c P b =
+    let ok = c.publish.ensures.ok P in
+    let err = c.publish.ensures.err P in
+    search rules
+
+pub returns-clause-walks : goal.returns-clause-walks
+returns-clause-walks c =
+    let ok = c.publish.ensures.ok c.requires.of.0 in
+    let err = c.publish.ensures.err c.requires.of.0 in
+    search rules

@@ -28,7 +28,7 @@ returns-clause-walks c =
 
 pub returns-in-Some-clause-due : goal.returns-in-Some-clause-due
 unfolding Settled
-returns-in-Some-clause-due c = rw c.in-Some.is at c.in_ok-pause.ensures.due
+returns-in-Some-clause-due c = rw c.in-Some.is at (c.in_ok-pause.ensures.due c.args.program.now c.requires.of)
 
 pub returns-in-Some-clause-settles : goal.returns-in-Some-clause-settles
 returns-in-Some-clause-settles c = record { goes = returns-in-Some-clause-goes c; used = (c.find.ensures.keeps c.args.program.now c.requires.of).used; limit = (c.find.ensures.keeps c.args.program.now c.requires.of).limit; asks = c.in_ok-pause.ensures.asks }

@@ -1,4 +1,5 @@
 use Rattle.std.proofs.Common.{◌≡◌}
+use Rattle.plprogram.specs.Program.{Program}
 use Rattle.plstack.specs.State.{walks_in}
 use Rattle.plsolver.specs.Asking.{SeeksOn}
 use Rattle.plsolver.specs.Going.{sweeps_left, IsSweeping}
@@ -7,8 +8,8 @@ use Rattle.plsolver.proofs.progress.Progress.sweep.Given as goal
 
 abbrev pub invariant-sweep : goal.invariant-sweep
 invariant-sweep l = record {
-  keeps : Keeps l.program l.fn.self l.self;
-  of : IsOf l.program l.self.machine;
+  keeps : (P : Program) → IsOf P l.fn.self.machine → Keeps P l.fn.self l.self;
+  of : (P : Program) → IsOf P l.fn.self.machine → IsOf P l.self.machine;
   sweeps : IsSweeping l.self;
   sought : SeeksOn l.fn.self.machine l.self.machine;
   walks : walks_in l.self.machine.stack ≡ walks_in l.fn.self.machine.stack;

@@ -6,4 +6,4 @@ pub returns-clause-ok : goal.returns-clause-ok
 returns-clause-ok c P b =
     rw (← c.self.view_is) (on_ok_map c.fetched.result
     (λ f v ordered g q asks told. rest-goes P v c.self.inside.progress c.fetched.new.self (rw (← c.self.view_is) at c.requires.within) (f v ordered g q asks told))
-    (c.fetched.ensures.ok P b))
+    (c.fetched.ensures.ok P (rw (← c.self.view_is) at b)))
