@@ -141,16 +141,24 @@ fn operands(rt: HostRuntime) -> Result<(), Fail> {
     Ok(())
 }
 
+/// The integer 9.
+fn nine() -> Operand {
+    Operand::Value(Cell::Int(9))
+}
+
 /// What a compound of so many arguments, all of them the integer 9, is seen to be.
+fn opened(name: &Name, count: u16) -> Result<Opened, AllocError> {
+    match count {
+        1 => Opened::of_one(name, nine()),
+        2 => Opened::of_two(name, nine(), nine()),
+        _ => Opened::unknown(name, count),
+    }
+}
+
+/// The same of a name's text, told.
 fn compound(alloc: Global, name: &str, count: u16) -> Result<String, AllocError> {
     let name = Name::new(alloc, name)?;
-    let nine = Operand::Value(Cell::Int(9));
-    let opened = match count {
-        1 => Opened::of_one(&name, nine)?,
-        2 => Opened::of_two(&name, nine, nine)?,
-        _ => Opened::unknown(&name, count)?,
-    };
-    told(alloc, &opened)
+    told(alloc, &opened(&name, count)?)
 }
 
 /// A name, how many arguments a compound has, and what it is seen to be.

@@ -1,4 +1,5 @@
 //! The slots of clauses.
+use plcells::cell::Cell;
 use plenv::env::Environment;
 use plenv::slot::Slot;
 use plmade::made::empty;
@@ -62,6 +63,27 @@ fn numbered(env: &mut Environment) -> Result<(Option<u64>, Option<u64>), AllocEr
     Ok((before, number(&env.slot(slot))))
 }
 
+/// How many slots and variables there are with a clause behind a mark, and how many once all is as it was at the mark.
+fn undone(env: &mut Environment) -> Result<[(usize, u64); 2], AllocError> {
+    let _base = env.enter(3)?;
+    let mark = env.mark();
+    let _more = env.enter(4)?;
+    let during = (env.slot_count(), env.count());
+    env.undo(mark);
+    Ok([during, (env.slot_count(), env.count())])
+}
+
+/// The integer that stands in a slot of a clause once it is set.
+fn set(env: &mut Environment) -> Result<Option<i32>, AllocError> {
+    let base = env.enter(2)?;
+    let slot = env.slot_of(base, 1);
+    env.set(slot, Cell::Int(5))?;
+    match env.slot(slot) {
+        Slot::Set(Cell::Int(value)) => Ok(Some(value)),
+        _ => Ok(None),
+    }
+}
+
 #[test]
 fn slots_of_two_clauses(rt: HostRuntime) -> Result<(), Fail> {
     let mut env = empty(rt.alloc());
@@ -99,5 +121,21 @@ fn slot_of_a_variable(rt: HostRuntime) -> Result<(), Fail> {
     let mut env = empty(rt.alloc());
     let found = numbered(&mut env)?;
     assert!(rt; found == (Some(3), None));
+    Ok(())
+}
+
+#[test]
+fn slots_that_are_undone(rt: HostRuntime) -> Result<(), Fail> {
+    let mut env = empty(rt.alloc());
+    let found = undone(&mut env)?;
+    assert!(rt; found == [(7, 7), (3, 3)]);
+    Ok(())
+}
+
+#[test]
+fn slot_that_is_set(rt: HostRuntime) -> Result<(), Fail> {
+    let mut env = empty(rt.alloc());
+    let found = set(&mut env)?;
+    assert!(rt; found == Some(5));
     Ok(())
 }

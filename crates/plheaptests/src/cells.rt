@@ -31,6 +31,17 @@ fn cut_off(heap: &mut Heap) -> Result<(usize, usize, usize), AllocError>
     Ok((more, heap.len(), heap.boundary()))
 }
 
+/// How many cells there are with a variable behind a mark, and how many once the heap is as it was at the mark.
+fn undone(heap: &mut Heap) -> Result<(usize, usize), AllocError>
+    requires { IsFresh heap.old 7 }
+{
+    let mark = heap.mark();
+    let _variable = heap.variable(7)?;
+    let more = heap.len();
+    heap.undo(mark);
+    Ok((more, heap.len()))
+}
+
 /// How many cells of one are old: with a mark, once its choice is given up, with another mark, and once that is forgotten.
 fn old_cells(heap: &mut Heap) -> Result<[usize; 4], AllocError>
     requires { IsFresh heap.old 7 }
@@ -73,6 +84,14 @@ fn pair_text(alloc: Global, heap: &mut Heap, text: &str) -> Result<String, Fail>
     Ok(shown(alloc, heap, Cell::Str(p))?)
 }
 
+/// The text of a new compound of a name and the values 1 and 2.
+fn compound_text(alloc: Global, heap: &mut Heap, text: &str) -> Result<String, Fail> {
+    let name = name(alloc, text)?;
+    let f = heap.functor_named(&name, 2)?;
+    let v = heap.compound(f, &[Cell::Int(1), Cell::Int(2)])?;
+    Ok(shown(alloc, heap, v)?)
+}
+
 /// The integer that a value is, if it is one.
 fn integer(heap: &Heap, v: &Cell) -> Option<i64>
     requires { IsValue heap.now v.now }
@@ -104,7 +123,7 @@ const NUMBERS: [i64; 6] = [
 fn run_on_stack(alloc: Global) -> Result<String, Fail> {
     let mut stack = Vec::new(alloc);
     stack.push(CellId::at(9))?;
-    push_run(&mut stack, CellId::at(4), 3)?;
+    push_run(&mut stack, CellId::at(1).after(3), 3)?;
     places_text(alloc, &stack)
 }
 
@@ -200,6 +219,15 @@ fn cells_that_are_cut_off(rt: HostRuntime) -> Result<(), Fail> {
 }
 
 #[test]
+fn cells_that_are_undone(rt: HostRuntime) -> Result<(), Fail> {
+    let alloc = rt.alloc();
+    let mut heap = Heap::new(alloc, Names::new(alloc));
+    let found = undone(&mut heap)?;
+    assert!(rt; found == (1, 0));
+    Ok(())
+}
+
+#[test]
 fn cells_that_are_old(rt: HostRuntime) -> Result<(), Fail> {
     let alloc = rt.alloc();
     let mut heap = Heap::new(alloc, Names::new(alloc));
@@ -223,6 +251,8 @@ fn block_of_a_name(rt: HostRuntime) -> Result<(), Fail> {
     let mut heap = Heap::new(alloc, Names::new(alloc));
     let found = pair_text(alloc, &mut heap, "f")?;
     assert_eq!(rt; found.as_str(), "f(1,2)");
+    let found = compound_text(alloc, &mut heap, "g")?;
+    assert_eq!(rt; found.as_str(), "g(1,2)");
     Ok(())
 }
 

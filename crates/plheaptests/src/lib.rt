@@ -16,6 +16,8 @@ mod pairs;
 #[cfg(test)]
 mod plain;
 #[cfg(test)]
+mod shapes;
+#[cfg(test)]
 mod terms;
 #[cfg(test)]
 mod unification;

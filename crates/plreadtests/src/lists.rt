@@ -1,9 +1,9 @@
 //! Lists among the terms of complete operands (plread).
 ghost use Rattle.std.specs.Prelude.{◌≡◌, ◌+◌, length, OnOk};
 
-use crate::made::shape;
 use plread::lists::{close, join, push_chars, push_codes};
 use plread::words::Words;
+use plreadmade::made::shape;
 use plterm::builder::Builder;
 use plterm::node::Node;
 use plterm::term::Term;

@@ -1,5 +1,4 @@
 //! Loaded programs (plprogram).
-use crate::made::term_of;
 use plclause::form::{ClauseForm, clause_of};
 use plevent::Batch;
 use pllibrary::library::with_library;
@@ -9,6 +8,7 @@ use plnames::table::NameTable;
 use plops::flag::Quotes;
 use plprogram::program::{Counts, Procedures, Program};
 use plprogram::settings::{Settings, Unknown};
+use plreadmade::made::term_of;
 use plterm::indicator::Indicator;
 use plterm::name::Name;
 use plterm::term::Term;

@@ -3,11 +3,11 @@ ghost use Rattle.std.specs.Prelude.{◌≡◌, Some, IfOk};
 ghost use Rattle.plclause.specs.Conversion.{converted};
 ghost use Rattle.plclause.specs.Soundness.{IsCallable};
 
-use crate::made::{shape, term_of};
 use plclause::clause::{Clause, indicator_of};
 use plclause::convert::{convert, converted_once, holds_goals};
 use plclause::form::truth;
 use plclause::shared::SharedTerm;
+use plreadmade::made::{shape, term_of};
 use plterm::name::Name;
 use plterm::term::Term;
 use plterm::walk::Shape;

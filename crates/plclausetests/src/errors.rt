@@ -1,6 +1,6 @@
 //! The error terms (plerror).
-use crate::made::shape;
 use plerror::error;
+use plreadmade::made::shape;
 use plterm::indicator::Indicator;
 use plterm::name::Name;
 use plterm::term::Term;

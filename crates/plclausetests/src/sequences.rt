@@ -1,6 +1,6 @@
 //! Sequences and lists within terms (plclause).
-use crate::made::{shape, term_of};
 use plclause::lists::{argument_of, elements_of, is_list, members_of, pair_of};
+use plreadmade::made::{shape, term_of};
 use plterm::term::Term;
 use plterm::walk::TermRef;
 use std::alloc::Global;

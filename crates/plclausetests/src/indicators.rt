@@ -1,7 +1,7 @@
 //! Terms that name procedures (plclause).
-use crate::made::term_of;
 use crate::sequences::all;
 use plclause::named::{indicator_of, indicators_of, is_open, name_of, named_terms, number_to};
+use plreadmade::made::term_of;
 use plterm::indicator::Indicator;
 use plterm::term::Term;
 use std::alloc::{AllocError, Global};

@@ -1,7 +1,7 @@
 //! Clauses, and goals of terms (plclause).
-use crate::made::{shape, term_of};
 use plclause::convert::convert;
 use plclause::form::{ClauseForm, clause_of, clause_with, truth};
+use plreadmade::made::{shape, term_of};
 use std::alloc::Global;
 use std::string::String;
 use std::test::Fail;

@@ -1,0 +1,4 @@
+//! Terms from their text, and the nodes of terms, for tests.
+#![tactic(auto)]
+
+pub mod made;
