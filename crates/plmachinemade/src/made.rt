@@ -129,7 +129,7 @@ pub struct Selection {
 }
 
 /// The goal that a machine visits first.
-pub fn selection(machine: &Machine) -> Result<Selection, Fail>
+pub fn first_goal(machine: &Machine) -> Result<Selection, Fail>
     ensures first { IfOk result (λ x. IsFirstGoal machine.now.stack x.level x.goal x.rest) }
     ensures call { IfOk result (λ x. IsCall machine.now.stack x.goal x.number x.args.items) }
 {
@@ -154,7 +154,7 @@ pub fn selection(machine: &Machine) -> Result<Selection, Fail>
 pub fn visit_goal(machine: &mut Machine, goal: Cell) -> Result<(), Fail>
     requires { IsValue machine.old.stack.env.heap goal }
 {
-    let first = selection(machine)?;
+    let first = first_goal(machine)?;
     let list = machine
         .stack
         .link(Portion::Goal(first.level, goal), first.rest)?;

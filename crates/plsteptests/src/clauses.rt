@@ -7,7 +7,7 @@ use plevent::{ClauseName, Update};
 use plmachine::machine::Machine;
 use plmachine::select::Source;
 use plmachine::walk::Neck;
-use plmachinemade::made::{machine, one, program, selection, two};
+use plmachinemade::made::{first_goal, machine, one, program, two};
 use plmachinemade::told::told;
 use plnames::kind::Side;
 use plprogram::program::Program;
@@ -39,7 +39,7 @@ enum Row {
 fn add(program: &Program, machine: &mut Machine, side: Side) -> Result<(), Fail>
     requires { IsReady program.now machine.old }
 {
-    let first = selection(machine)?;
+    let first = first_goal(machine)?;
     let source = Source::Value(first.goal);
     machine.add(program, side, one(&first.args)?, source, first.rest)?;
     Ok(())
@@ -49,7 +49,7 @@ fn add(program: &Program, machine: &mut Machine, side: Side) -> Result<(), Fail>
 fn retrieve(program: &Program, machine: &mut Machine) -> Result<(), Fail>
     requires { IsReady program.now machine.old }
 {
-    let first = selection(machine)?;
+    let first = first_goal(machine)?;
     let (head, body) = two(&first.args)?;
     machine.retrieve(program, head, body, Source::Value(first.goal), first.rest)?;
     Ok(())
@@ -59,7 +59,7 @@ fn retrieve(program: &Program, machine: &mut Machine) -> Result<(), Fail>
 fn retract(program: &Program, machine: &mut Machine) -> Result<(), Fail>
     requires { IsReady program.now machine.old }
 {
-    let first = selection(machine)?;
+    let first = first_goal(machine)?;
     let source = Source::Value(first.goal);
     machine.retract(program, one(&first.args)?, source, first.rest)?;
     Ok(())
@@ -69,7 +69,7 @@ fn retract(program: &Program, machine: &mut Machine) -> Result<(), Fail>
 fn retract_all(program: &Program, machine: &mut Machine) -> Result<(), Fail>
     requires { IsReady program.now machine.old }
 {
-    let first = selection(machine)?;
+    let first = first_goal(machine)?;
     let source = Source::Value(first.goal);
     machine.retract_all(program, one(&first.args)?, source, first.rest)?;
     Ok(())
@@ -79,7 +79,7 @@ fn retract_all(program: &Program, machine: &mut Machine) -> Result<(), Fail>
 fn declare(program: &Program, machine: &mut Machine) -> Result<(), Fail>
     requires { IsReady program.now machine.old }
 {
-    let first = selection(machine)?;
+    let first = first_goal(machine)?;
     let source = Source::Value(first.goal);
     machine.declare(program, one(&first.args)?, source, first.rest)?;
     Ok(())
@@ -95,7 +95,7 @@ fn declaration(alloc: Global, arity: u16) -> Result<Update, AllocError> {
 fn publish(machine: &mut Machine, count: u16) -> Result<(), Fail>
     requires { (P : Given) × IsReady P machine.old }
 {
-    let first = selection(machine)?;
+    let first = first_goal(machine)?;
     let mut updates = Vec::new(machine.alloc);
     for arity in 0..count {
         updates.push(declaration(machine.alloc, arity)?)?;
@@ -108,7 +108,7 @@ fn publish(machine: &mut Machine, count: u16) -> Result<(), Fail>
 fn publish_one(machine: &mut Machine) -> Result<(), Fail>
     requires { (P : Given) × IsReady P machine.old }
 {
-    let first = selection(machine)?;
+    let first = first_goal(machine)?;
     let update = declaration(machine.alloc, 5)?;
     machine.publish_one(update, first.rest)?;
     Ok(())
@@ -118,7 +118,7 @@ fn publish_one(machine: &mut Machine) -> Result<(), Fail>
 fn erase(machine: &mut Machine) -> Result<(), Fail>
     requires { (P : Given) × IsReady P machine.old }
 {
-    let first = selection(machine)?;
+    let first = first_goal(machine)?;
     let name = ClauseName {
         place: 2,
         number: 1,
@@ -129,7 +129,7 @@ fn erase(machine: &mut Machine) -> Result<(), Fail>
 
 /// The clauses of the text are walked through for the goal.
 fn walk(machine: &mut Machine) -> Result<(), Fail> {
-    let first = selection(machine)?;
+    let first = first_goal(machine)?;
     let walk = Walk {
         goal: first.goal,
         uses: Use::Call,
@@ -141,7 +141,7 @@ fn walk(machine: &mut Machine) -> Result<(), Fail> {
 
 /// The two arguments are a head and a body whose clauses in the text are told.
 fn tell(machine: &mut Machine, uses: Use) -> Result<(), Fail> {
-    let first = selection(machine)?;
+    let first = first_goal(machine)?;
     let (head, body) = two(&first.args)?;
     machine.tell(Neck { head, body }, uses, Spot::Text(0), first.rest)?;
     Ok(())
@@ -151,7 +151,7 @@ fn tell(machine: &mut Machine, uses: Use) -> Result<(), Fail> {
 fn declare_one(machine: &mut Machine) -> Result<(), Fail>
     requires { (P : Given) × IsReady P machine.old }
 {
-    let first = selection(machine)?;
+    let first = first_goal(machine)?;
     let name = Name::new(machine.alloc, "foo")?;
     machine.go_on(first.rest);
     machine.declare_one(Indicator { name, arity: 2 })?;

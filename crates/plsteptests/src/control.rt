@@ -5,7 +5,7 @@ ghost use Rattle.plmachinemade.specs.Ready.{IsReady};
 use plevent::Request;
 use pllinks::item::{MarkerKind, Portion};
 use plmachine::machine::{Machine, Outcome, Question, Then};
-use plmachinemade::made::{machine, one, program, selection, two, visit_goal};
+use plmachinemade::made::{first_goal, machine, one, program, two, visit_goal};
 use plmachinemade::told::told;
 use plprogram::program::Program;
 use plstack::frame::Around;
@@ -33,13 +33,13 @@ enum Row {
 
 /// The argument is visited as a goal of the same level.
 fn go_on(machine: &mut Machine) -> Result<(), Fail> {
-    let first = selection(machine)?;
+    let first = first_goal(machine)?;
     visit_goal(machine, one(&first.args)?)
 }
 
 /// The argument is the error of foo/2.
 fn raise(machine: &mut Machine) -> Result<(), Fail> {
-    let first = selection(machine)?;
+    let first = first_goal(machine)?;
     let error = one(&first.args)?;
     let term = machine.stack.env().heap().take(machine.alloc, error)?;
     let name = Name::new(machine.alloc, "foo")?;
@@ -50,7 +50,7 @@ fn raise(machine: &mut Machine) -> Result<(), Fail> {
 
 /// The run is to be ended with 3.
 fn ask(machine: &mut Machine) -> Result<(), Fail> {
-    let first = selection(machine)?;
+    let first = first_goal(machine)?;
     let question = Question::Await(Request::HaltRun(3), Then::Ends(3));
     machine.ask(question, first.rest);
     Ok(())
@@ -58,14 +58,14 @@ fn ask(machine: &mut Machine) -> Result<(), Fail> {
 
 /// The list behind is visited in a case of its own.
 fn enter(machine: &mut Machine) -> Result<(), Fail> {
-    let first = selection(machine)?;
+    let first = first_goal(machine)?;
     machine.enter(first.rest, Around::Nothing)?;
     Ok(())
 }
 
 /// The two arguments are a conjunction.
 fn both(machine: &mut Machine) -> Result<(), Fail> {
-    let first = selection(machine)?;
+    let first = first_goal(machine)?;
     let (a, b) = two(&first.args)?;
     let left = Portion::Goal(first.level, a);
     machine.both(left, Portion::Goal(first.level, b), first.rest)?;
@@ -74,7 +74,7 @@ fn both(machine: &mut Machine) -> Result<(), Fail> {
 
 /// The two arguments are a disjunction.
 fn either(machine: &mut Machine) -> Result<(), Fail> {
-    let first = selection(machine)?;
+    let first = first_goal(machine)?;
     let (a, b) = two(&first.args)?;
     let left = Portion::Goal(first.level, a);
     machine.either(left, Portion::Goal(first.level, b), first.rest)?;
@@ -85,7 +85,7 @@ fn either(machine: &mut Machine) -> Result<(), Fail> {
 fn then(machine: &mut Machine) -> Result<(), Fail>
     requires { (P : Given) × IsReady P machine.old }
 {
-    let first = selection(machine)?;
+    let first = first_goal(machine)?;
     let (a, b) = two(&first.args)?;
     let condition = Portion::Goal(first.level, a);
     machine.then(
@@ -99,7 +99,7 @@ fn then(machine: &mut Machine) -> Result<(), Fail>
 
 /// The two arguments are a condition and what follows it, and for want of the condition the second is done too.
 fn then_else(machine: &mut Machine) -> Result<(), Fail> {
-    let first = selection(machine)?;
+    let first = first_goal(machine)?;
     let (a, b) = two(&first.args)?;
     let condition = Portion::Goal(first.level, a);
     let then = Portion::Goal(first.level, b);
@@ -109,16 +109,16 @@ fn then_else(machine: &mut Machine) -> Result<(), Fail> {
 
 /// The choices down to the level of the goal are given up, of which one more is open.
 fn cut(machine: &mut Machine) -> Result<(), Fail> {
-    let first = selection(machine)?;
+    let first = first_goal(machine)?;
     machine.stack.open_branch(first.rest)?;
-    let first = selection(machine)?;
+    let first = first_goal(machine)?;
     machine.cut(first.level, first.rest)?;
     Ok(())
 }
 
 /// The argument is thrown before a marker of the level of the goal.
 fn throw(machine: &mut Machine) -> Result<(), Fail> {
-    let first = selection(machine)?;
+    let first = first_goal(machine)?;
     let ball = one(&first.args)?;
     let marker = Portion::Marker(MarkerKind::Commit, first.level);
     let list = machine.stack.link(marker, first.rest)?;

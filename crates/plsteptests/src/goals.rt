@@ -5,7 +5,7 @@ ghost use Rattle.plmachinemade.specs.Ready.{IsReady};
 use plgoals::form::{Form, form_of};
 use plmachine::machine::{Machine, Mode};
 use plmachine::select::Source;
-use plmachinemade::made::{machine, program, selection};
+use plmachinemade::made::{first_goal, machine, program};
 use plmachinemade::told::told;
 use plprogram::program::Program;
 use plstack::first::First;
@@ -30,7 +30,7 @@ enum Row {
 fn select(program: &Program, machine: &mut Machine) -> Result<(), Fail>
     requires { IsReady program.now machine.old }
 {
-    let first = selection(machine)?;
+    let first = first_goal(machine)?;
     machine.args = first.args;
     let heap = machine.stack.env().heap();
     let form = form_of(heap, machine.stack.code(), first.number, &machine.args);
@@ -43,7 +43,7 @@ fn select(program: &Program, machine: &mut Machine) -> Result<(), Fail>
 fn term(program: &Program, machine: &mut Machine) -> Result<(), Fail>
     requires { IsReady program.now machine.old }
 {
-    let first = selection(machine)?;
+    let first = first_goal(machine)?;
     machine.term(program, first.level, first.goal, first.rest)?;
     Ok(())
 }
@@ -52,7 +52,7 @@ fn term(program: &Program, machine: &mut Machine) -> Result<(), Fail>
 fn step(program: &Program, machine: &mut Machine) -> Result<(), Fail>
     requires { IsReady program.now machine.old }
 {
-    let first = selection(machine)?;
+    let first = first_goal(machine)?;
     machine.term(program, first.level, first.goal, first.rest)?;
     step_on(program, machine)
 }
@@ -76,7 +76,7 @@ fn step_on(program: &Program, machine: &mut Machine) -> Result<(), Fail> {
 fn built_in(machine: &mut Machine) -> Result<(), Fail>
     requires { (P : Given) × IsReady P machine.old }
 {
-    let first = selection(machine)?;
+    let first = first_goal(machine)?;
     machine.args = first.args;
     let heap = machine.stack.env().heap();
     let form = form_of(heap, machine.stack.code(), first.number, &machine.args);

@@ -7,11 +7,9 @@ use plclause::clause::Clause;
 use plevent::{ClauseName, Key};
 use plmachine::candidate::{of_name, of_text};
 use plmachine::clauses::mode_of;
-use plmachine::indicator::indicator_of;
 use plmachine::machine::{Find, Lookup, Machine};
-use plmachine::rows::is_variable;
 use plmachine::sought::{first_key, head_of};
-use plmachinemade::made::{machine, one, program, selection, two};
+use plmachinemade::made::{first_goal, machine, one, program, two};
 use plmachinemade::told::{clause_text, mode_text, shown, use_word};
 use plprogram::program::Program;
 use plstack::frame::Use;
@@ -24,8 +22,6 @@ use std::test::Fail;
 /// A call on the value of a term.
 #[derive(Clone, Copy)]
 enum Look {
-    IsVariable,
-    Indicator,
     Head(Use),
     Key,
 }
@@ -45,14 +41,6 @@ fn looked_in(alloc: Global, heap: &Heap, look: Look, v: Cell) -> Result<String, 
     requires { IsValue heap.now v }
 {
     match look {
-        Look::IsVariable => {
-            let found = is_variable(heap, &v);
-            Ok(format!(in alloc; "{found}")?)
-        }
-        Look::Indicator => {
-            let p = indicator_of(alloc, heap, &v)?;
-            Ok(format!(in alloc; "{}/{}", p.name.as_str(), p.arity)?)
-        }
         Look::Head(uses) => shown(alloc, heap, head_of(heap, uses, v)),
         Look::Key => key_text(alloc, &first_key(heap, &v)?),
     }
@@ -60,7 +48,7 @@ fn looked_in(alloc: Global, heap: &Heap, look: Look, v: Cell) -> Result<String, 
 
 /// What a call tells of the argument of the goal that a machine visits first.
 fn looked_of(alloc: Global, machine: &Machine, look: Look) -> Result<String, Fail> {
-    let first = selection(machine)?;
+    let first = first_goal(machine)?;
     looked_in(alloc, machine.stack.env().heap(), look, one(&first.args)?)
 }
 
@@ -77,15 +65,7 @@ fn looked(alloc: Global, look: Look, text: &str) -> Result<String, Fail> {
 }
 
 /// Calls, goals of one argument, and what the calls tell of its value.
-const LOOKS: [(Look, &str, &str); 20] = [
-    (Look::IsVariable, "g(X)", "true"),
-    (Look::IsVariable, "g(a)", "false"),
-    (Look::IsVariable, "g(f(X))", "false"),
-    (Look::IsVariable, "g(9223372036854775807)", "false"),
-    (Look::Indicator, "g(a)", "a/0"),
-    (Look::Indicator, "g(f(X, b))", "f/2"),
-    (Look::Indicator, "g([a, b])", "./2"),
-    (Look::Indicator, "g([])", "[]/0"),
+const LOOKS: [(Look, &str, &str); 12] = [
     (Look::Head(Use::Call), "g((p(X) :- q))", "p(_1):-q"),
     (Look::Head(Use::Tell), "g((p(X) :- q))", "p(_1)"),
     (Look::Head(Use::Erase), "g((p(X) :- q))", "p(_1)"),
@@ -141,7 +121,7 @@ fn find_text(alloc: Global, heap: &Heap, find: &Find) -> Result<String, Fail> {
 
 /// What a look-up for the arguments of the goal that a machine visits first seeks.
 fn sought_in(alloc: Global, machine: &mut Machine, purpose: Purpose) -> Result<String, Fail> {
-    let first = selection(machine)?;
+    let first = first_goal(machine)?;
     let (a, b) = two(&first.args)?;
     let view = View { place: 5, count: 0 };
     let find = machine.find_of(lookup(purpose, a, b), view)?;

@@ -9,7 +9,7 @@ use pllinks::level::Level;
 use plmachine::finding::Finding;
 use plmachine::machine::{Machine, Outcome};
 use plmachine::running::Ready;
-use plmachinemade::made::{machine, one, program, selection, two, visit_goal};
+use plmachinemade::made::{first_goal, machine, one, program, two, visit_goal};
 use plmachinemade::told::told;
 use plprogram::program::Program;
 use plstack::frame::Catcher;
@@ -41,14 +41,14 @@ enum Row {
 
 /// The argument is run once.
 fn once(machine: &mut Machine) -> Result<(), Fail> {
-    let first = selection(machine)?;
+    let first = first_goal(machine)?;
     machine.once(one(&first.args)?, first.rest)?;
     Ok(())
 }
 
 /// The argument is not provable.
 fn not(machine: &mut Machine) -> Result<(), Fail> {
-    let first = selection(machine)?;
+    let first = first_goal(machine)?;
     machine.not(one(&first.args)?, first.rest)?;
     Ok(())
 }
@@ -65,7 +65,7 @@ fn three(args: &[Cell]) -> Result<(Cell, Cell, Cell), Fail>
 
 /// The arguments are a goal, a catcher and a recovery.
 fn catching(machine: &mut Machine) -> Result<(), Fail> {
-    let first = selection(machine)?;
+    let first = first_goal(machine)?;
     let (goal, catcher, recovery) = three(&first.args)?;
     machine.catching(goal, Catcher { catcher, recovery }, first.rest)?;
     Ok(())
@@ -73,7 +73,7 @@ fn catching(machine: &mut Machine) -> Result<(), Fail> {
 
 /// The arguments are a goal and further arguments of it.
 fn call_with(machine: &mut Machine) -> Result<(), Fail> {
-    let first = selection(machine)?;
+    let first = first_goal(machine)?;
     if first.args.is_empty() {
         return Err("no argument".into());
     }
@@ -84,7 +84,7 @@ fn call_with(machine: &mut Machine) -> Result<(), Fail> {
 
 /// The arguments are a template, a goal, and what is to be the list.
 fn find_all(machine: &mut Machine) -> Result<(), Fail> {
-    let first = selection(machine)?;
+    let first = first_goal(machine)?;
     let (template, goal, whole) = three(&first.args)?;
     let finding = Finding {
         template,
@@ -99,7 +99,7 @@ fn find_all(machine: &mut Machine) -> Result<(), Fail> {
 fn within(machine: &mut Machine, kind: Isolation) -> Result<(), Fail>
     requires { (P : Given) × IsReady P machine.old }
 {
-    let first = selection(machine)?;
+    let first = first_goal(machine)?;
     machine.within(kind, one(&first.args)?, first.rest)?;
     Ok(())
 }
@@ -108,7 +108,7 @@ fn within(machine: &mut Machine, kind: Isolation) -> Result<(), Fail>
 fn begin_at(machine: &mut Machine) -> Result<(), Fail>
     requires { (P : Given) × IsReady P machine.old }
 {
-    let first = selection(machine)?;
+    let first = first_goal(machine)?;
     let goal = one(&first.args)?;
     machine.go_on(first.rest);
     machine.begin_at(Isolation::Transaction, 4, goal)?;
@@ -117,21 +117,21 @@ fn begin_at(machine: &mut Machine) -> Result<(), Fail>
 
 /// The run is ended with 7.
 fn halt(machine: &mut Machine) -> Result<(), Fail> {
-    let first = selection(machine)?;
+    let first = first_goal(machine)?;
     machine.halt(7, first.rest);
     Ok(())
 }
 
 /// The argument is the number with which the run is ended.
 fn halt_with(machine: &mut Machine) -> Result<(), Fail> {
-    let first = selection(machine)?;
+    let first = first_goal(machine)?;
     machine.halt_with(one(&first.args)?, first.rest)?;
     Ok(())
 }
 
 /// The argument is visited as the goal that it is run as, or its error is that of foo/2.
 fn ready(machine: &mut Machine) -> Result<(), Fail> {
-    let first = selection(machine)?;
+    let first = first_goal(machine)?;
     match machine.ready(&one(&first.args)?)? {
         Ready::Runs(goal) => visit_goal(machine, goal),
         Ready::Raises(error) => raise(machine, error),
@@ -140,7 +140,7 @@ fn ready(machine: &mut Machine) -> Result<(), Fail> {
 
 /// An error is that of foo/2.
 fn raise(machine: &mut Machine, error: Term) -> Result<(), Fail> {
-    let first = selection(machine)?;
+    let first = first_goal(machine)?;
     let name = Name::new(machine.alloc, "foo")?;
     machine.raise(error, &Indicator { name, arity: 2 }, first.rest)?;
     Ok(())
@@ -161,7 +161,7 @@ fn keep(machine: &mut Machine, v: Cell) -> Result<(), Fail>
 
 /// The second argument is the list of the copies of the first one from a level on, or there is failure.
 fn gather(machine: &mut Machine, from: u64) -> Result<(), Fail> {
-    let first = selection(machine)?;
+    let first = first_goal(machine)?;
     let (a, list) = two(&first.args)?;
     keep(machine, a)?;
     if !machine.gather(Level::new(from), list)? {
