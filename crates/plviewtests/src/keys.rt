@@ -86,7 +86,10 @@ fn fits(alloc: Global, goal: First, first: First) -> Result<bool, TermError> {
 #[test]
 fn keys_of_heads(rt: HostRuntime) -> Result<(), Fail> {
     for (goal, first, wanted) in FITS {
-        assert!(rt; fits(rt.alloc(), goal, first)? == wanted, "{goal:?} {first:?}");
+        assert!(rt;
+            fits(rt.alloc(), goal, first)? == wanted,
+            "{goal:?} {first:?}"
+        );
     }
     Ok(())
 }
