@@ -93,23 +93,23 @@ fn put(alloc: Global, number: u64, term: &[Node], into: &[Node]) -> Result<Vec<N
 }
 
 /// Two terms that are unified one variable further.
-enum Round {
+enum Outcome {
     Same,
     Apart,
     Further(Vec<Node>, Vec<Node>),
 }
 
 /// One variable is bound in both terms.
-fn round(alloc: Global, left: &[Node], right: &[Node]) -> Result<Round, AllocError> {
+fn round(alloc: Global, left: &[Node], right: &[Node]) -> Result<Outcome, AllocError> {
     let Some((first, second)) = difference(left, right) else {
-        return Ok(Round::Same);
+        return Ok(Outcome::Same);
     };
     match binding(first, second) {
-        Some((number, term)) if !occurs(number, term) => Ok(Round::Further(
+        Some((number, term)) if !occurs(number, term) => Ok(Outcome::Further(
             put(alloc, number, term, left)?,
             put(alloc, number, term, right)?,
         )),
-        _ => Ok(Round::Apart),
+        _ => Ok(Outcome::Apart),
     }
 }
 
@@ -119,9 +119,9 @@ fn plain(alloc: Global, left: &Term, right: &Term) -> Result<Option<Vec<Node>>, 
     let mut right = prefix(alloc, right)?;
     for _ in 0..ROUNDS {
         match round(alloc, &left, &right)? {
-            Round::Same => return Ok(Some(left)),
-            Round::Apart => return Ok(None),
-            Round::Further(first, second) => {
+            Outcome::Same => return Ok(Some(left)),
+            Outcome::Apart => return Ok(None),
+            Outcome::Further(first, second) => {
                 left = first;
                 right = second;
             }
