@@ -6,15 +6,11 @@ mod events;
 #[cfg(test)]
 mod histories;
 #[cfg(test)]
-mod items;
-#[cfg(test)]
 mod made;
 #[cfg(test)]
 mod owns;
 #[cfg(test)]
 mod packs;
-#[cfg(test)]
-mod standings;
 #[cfg(test)]
 mod stores;
 #[cfg(test)]
