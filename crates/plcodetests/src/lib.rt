@@ -1,15 +1,7 @@
-//! Tests of compiled clauses: their steps and keys, the slots of an environment, heads, and what goals are by what they call.
+//! Tests of compiled clauses: their keys, and the slots of an environment.
 #![tactic(auto)]
 
 #[cfg(test)]
 mod codes;
 #[cfg(test)]
-mod forms;
-#[cfg(test)]
-mod heads;
-#[cfg(test)]
-mod places;
-#[cfg(test)]
 mod slots;
-#[cfg(test)]
-mod steps;
