@@ -1,10 +1,10 @@
 //! Cases that are opened, closed and come back to, and what a cut gives up.
-use crate::back::{Back, come_back};
-use crate::going::{Going, go_on};
-use crate::made::begun;
-use crate::opening::{Opening, open};
-use crate::state::state;
 use plstack::stack::Stack;
+use plstackmade::back::{Back, come_back};
+use plstackmade::going::{Going, go_on};
+use plstackmade::made::begun;
+use plstackmade::opening::{Opening, open};
+use plstackmade::state::state;
 use std::alloc::Global;
 use std::fmt::Write;
 use std::string::String;

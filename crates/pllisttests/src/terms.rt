@@ -2,8 +2,6 @@
 ghost use Rattle.std.specs.Prelude.{IfOk};
 ghost use Rattle.plcells.specs.Store.{AreValues, IsValue};
 
-use crate::made::begun;
-use crate::opening::put;
 use plcells::cell::Cell;
 use plcells::heap::Heap;
 use plcollect::collection::Collection;
@@ -12,6 +10,8 @@ use pllinks::level::Level;
 use plmade::made::{shown, told};
 use plops::table::OpTable;
 use plstack::stack::Stack;
+use plstackmade::made::begun;
+use plstackmade::opening::put;
 use plwrite::style::Style;
 use plwrite::write::write_term;
 use std::alloc::Global;

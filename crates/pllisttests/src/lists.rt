@@ -5,15 +5,15 @@ ghost use Rattle.plstack.specs.State.{IsList};
 ghost use Rattle.plmachine.specs.Lists.{IsPart};
 ghost use Rattle.pllinks.specs.declared.item.Portion.TheVariants.{Clause as RunOf};
 
-use crate::first::list;
-use crate::made::begun;
-use crate::state::number;
 use plcells::cell::Cell;
 use pllinks::item::{ClauseGoals, MarkerKind, Portion};
 use pllinks::level::Level;
 use pllinks::link::{Continuation, Link, first_link, push_link};
 use pllinks::list::ListId;
 use plstack::stack::Stack;
+use plstackmade::first::list;
+use plstackmade::made::begun;
+use plstackmade::state::number;
 use std::alloc::Global;
 use std::string::String;
 use std::test::Fail;

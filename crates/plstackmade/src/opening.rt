@@ -17,7 +17,7 @@ use std::test::Fail;
 
 /// What is opened around the visited list.
 #[derive(Clone, Copy)]
-pub(crate) enum Opening {
+pub enum Opening {
     /// A choice with nothing left.
     Plain,
     /// A choice of the list itself.
@@ -33,7 +33,7 @@ pub(crate) enum Opening {
 }
 
 /// Opens a choice of the visited list.
-pub(crate) fn branch(stack: &mut Stack) -> Result<(), Fail>
+pub fn branch(stack: &mut Stack) -> Result<(), Fail>
     ensures basis { OnOk result (stack.new.basis ≡ stack.old.basis) }
 {
     let list = list(stack)?;
@@ -72,7 +72,7 @@ fn handle(stack: &mut Stack, handler: Handler, kind: MarkerKind) -> Result<(), F
 }
 
 /// Puts the term of a text: its value.
-pub(crate) fn put(stack: &mut Stack, alloc: Global, text: &str) -> Result<Cell, Fail>
+pub fn put(stack: &mut Stack, alloc: Global, text: &str) -> Result<Cell, Fail>
     ensures value { IfOk result (λ v. IsValue stack.new.env.heap v) }
     ensures stays { Extends stack.old stack.new }
 {
@@ -96,7 +96,7 @@ fn gather(stack: &mut Stack, alloc: Global) -> Result<(), Fail> {
 }
 
 /// Opens it.
-pub(crate) fn open(stack: &mut Stack, alloc: Global, by: Opening) -> Result<(), Fail> {
+pub fn open(stack: &mut Stack, alloc: Global, by: Opening) -> Result<(), Fail> {
     match by {
         Opening::Plain => Ok(stack.open_plain()?),
         Opening::Branch => branch(stack),

@@ -5,7 +5,6 @@ ghost use Rattle.plcells.specs.Store.{AreValues, IsValue};
 ghost use Rattle.plstack.specs.Places.{Database};
 ghost use Rattle.plstack.specs.StaticCalls.{AreStatics};
 
-use crate::made::{environment_of, goal, program};
 use plcells::cell::Cell;
 use plcode::key::Key;
 use plcode::program::ProgramCode;
@@ -13,6 +12,7 @@ use plenv::env::Environment;
 use plgoals::callable::arguments_of;
 use plhead::head::Matcher;
 use plstack::fit::{Attempt, Found, first_fit};
+use plstackmade::made::{environment_of, goal, program};
 use plterm::term::Term;
 use std::alloc::{AllocError, Global};
 use std::test::Fail;

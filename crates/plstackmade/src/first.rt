@@ -21,10 +21,10 @@ use std::test::Fail;
 
 /// A goal that is picked: its level, the number by which it is called, and the list behind it.
 #[derive(Clone, Copy)]
-pub(crate) struct Picked {
-    pub(crate) level: Level,
-    pub(crate) number: Number,
-    pub(crate) rest: Continuation,
+pub struct Picked {
+    pub level: Level,
+    pub number: Number,
+    pub rest: Continuation,
 }
 
 /// Picks a goal by its number.
@@ -84,7 +84,7 @@ fn pick_term(
 }
 
 /// Picks the first of the visited list, a goal that is no control construct of branches: a list is made the values of its arguments.
-pub(crate) fn pick(stack: &mut Stack, values: &mut Vec<Cell>) -> Result<Picked, Fail>
+pub fn pick(stack: &mut Stack, values: &mut Vec<Cell>) -> Result<Picked, Fail>
     ensures values { OnOk result (AreValues stack.new.env.heap values.new.items) }
     ensures few { OnOk result (length values.new.items ≤ 1024) }
     ensures there { IfOk result (λ p. IsList stack.new p.rest) }
@@ -113,7 +113,7 @@ fn has_goals(stack: &Stack) -> bool
 }
 
 /// The visited list, which has goals.
-pub(crate) fn list(stack: &Stack) -> Result<Continuation, Fail>
+pub fn list(stack: &Stack) -> Result<Continuation, Fail>
     ensures there { IfOk result (λ l. IsList stack.now l) }
     ensures fits { IfOk result (λ l. IsFit stack.now l) }
 {
@@ -138,7 +138,7 @@ fn is_transact(kind: &MarkerKind) -> bool
 
 /// The list behind the first of the visited one, and of a conjunction that in which its two goals stand in its place. The marker of a
 /// transaction is not passed over.
-pub(crate) fn behind(stack: &Stack) -> Result<Continuation, Fail>
+pub fn behind(stack: &Stack) -> Result<Continuation, Fail>
     ensures there { IfOk result (λ l. IsList stack.now l) }
     ensures fits { IfOk result (λ l. IsFit stack.now l) }
 {
@@ -157,7 +157,7 @@ pub(crate) fn behind(stack: &Stack) -> Result<Continuation, Fail>
 }
 
 /// Goes on with the list behind the first of the visited one.
-pub(crate) fn pass(stack: &mut Stack) -> Result<(), Fail>
+pub fn pass(stack: &mut Stack) -> Result<(), Fail>
     ensures basis { OnOk result (stack.new.basis ≡ stack.old.basis) }
 {
     let next = behind(stack)?;
@@ -166,7 +166,7 @@ pub(crate) fn pass(stack: &mut Stack) -> Result<(), Fail>
 }
 
 /// Unifies the two arguments of the first of the visited list: whether they have a unifier.
-pub(crate) fn unify_first(stack: &mut Stack, values: &mut Vec<Cell>) -> Result<bool, Fail>
+pub fn unify_first(stack: &mut Stack, values: &mut Vec<Cell>) -> Result<bool, Fail>
     ensures basis { OnOk result (stack.new.basis ≡ stack.old.basis) }
 {
     let _picked = pick(stack, values)?;

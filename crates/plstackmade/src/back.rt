@@ -15,7 +15,7 @@ use std::test::Fail;
 
 /// What is done with the innermost case.
 #[derive(Clone, Copy)]
-pub(crate) enum Back {
+pub enum Back {
     /// The list of a choice is taken.
     Take,
     /// It is closed.
@@ -45,7 +45,7 @@ fn closed_word(closed: Option<Closed>) -> &'static str {
 }
 
 /// Takes the list of the innermost choice.
-pub(crate) fn take(stack: &mut Stack) -> Result<(), Fail>
+pub fn take(stack: &mut Stack) -> Result<(), Fail>
     ensures basis { OnOk result (stack.new.basis ≡ stack.old.basis) }
 {
     if !stack.is_branch() {
@@ -56,7 +56,7 @@ pub(crate) fn take(stack: &mut Stack) -> Result<(), Fail>
 }
 
 /// Closes the innermost choices with nothing left.
-pub(crate) fn close_plain(stack: &mut Stack) -> Result<(), Fail>
+pub fn close_plain(stack: &mut Stack) -> Result<(), Fail>
     ensures basis { OnOk result (stack.new.basis ≡ stack.old.basis) }
 {
     if !stack.is_plain() {
@@ -137,7 +137,7 @@ fn undo_level(stack: &Stack, alloc: Global) -> Result<String, Fail> {
 }
 
 /// Does it: what it tells.
-pub(crate) fn come_back(stack: &mut Stack, alloc: Global, by: Back) -> Result<String, Fail> {
+pub fn come_back(stack: &mut Stack, alloc: Global, by: Back) -> Result<String, Fail> {
     let word = match by {
         Back::Take => {
             take(stack)?;
@@ -164,6 +164,6 @@ pub(crate) fn come_back(stack: &mut Stack, alloc: Global, by: Back) -> Result<St
 }
 
 /// The word of what is true or not.
-pub(crate) fn truth(is: bool) -> &'static str {
+pub fn truth(is: bool) -> &'static str {
     if is { "yes" } else { "no" }
 }

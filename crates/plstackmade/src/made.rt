@@ -28,7 +28,7 @@ use std::alloc::{AllocError, Global};
 use std::test::Fail;
 
 /// The program of a text.
-pub(crate) fn program(alloc: Global, text: &str) -> Result<Program, Fail> {
+pub fn program(alloc: Global, text: &str) -> Result<Program, Fail> {
     match load(alloc, text.as_bytes()) {
         Ok(program) => Ok(program),
         Err(_) => Err("refused".into()),
@@ -36,7 +36,7 @@ pub(crate) fn program(alloc: Global, text: &str) -> Result<Program, Fail> {
 }
 
 /// The goal of a text.
-pub(crate) fn goal(alloc: Global, text: &str) -> Result<Term, Fail> {
+pub fn goal(alloc: Global, text: &str) -> Result<Term, Fail> {
     match read_goal(alloc, text)? {
         Some(goal) => Ok(goal),
         None => Err("no goal".into()),
@@ -44,7 +44,7 @@ pub(crate) fn goal(alloc: Global, text: &str) -> Result<Term, Fail> {
 }
 
 /// An environment with nothing in it, of the names of a program's code.
-pub(crate) fn environment_of(alloc: Global, code: &ProgramCode) -> Result<Environment, AllocError>
+pub fn environment_of(alloc: Global, code: &ProgramCode) -> Result<Environment, AllocError>
     ensures { IfOk result (λ env. env.heap.names ≡ code.now.text.names) }
 {
     let names = code.names().copied(alloc)?;
@@ -74,7 +74,7 @@ fn nothing(stack: &Stack) -> Result<Continuation, Fail>
 }
 
 /// Opens a choice with nothing left in other cases, and visits in it an item before a list.
-pub(crate) fn enter(
+pub fn enter(
     stack: &mut Stack,
     item: Portion,
     rest: &Continuation,
@@ -105,7 +105,7 @@ fn start(stack: &mut Stack, goal: Cell) -> Result<(), Fail>
 }
 
 /// Calls the first of the visited list, a goal of a static procedure: whether a clause fits.
-pub(crate) fn call_first(stack: &mut Stack, alloc: Global) -> Result<bool, Fail>
+pub fn call_first(stack: &mut Stack, alloc: Global) -> Result<bool, Fail>
     requires statics { (db : Database) × AreStatics stack.old.basis.code db }
     ensures basis { OnOk result (stack.new.basis ≡ stack.old.basis) }
 {
@@ -134,7 +134,7 @@ fn begin(stack: &mut Stack, alloc: Global, text: &str) -> Result<(), Fail>
 
 /// A stack of a program's text in which the body of the first clause that fits the goal of a text is visited. The goal stands in the one
 /// case that was open, and its call in a second one.
-pub(crate) fn begun(alloc: Global, text: &str, goal: &str) -> Result<Stack, Fail>
+pub fn begun(alloc: Global, text: &str, goal: &str) -> Result<Stack, Fail>
     ensures statics { IfOk result (λ s. (db : Database) × AreStatics s.basis.code db) }
     ensures latest { IfOk result (λ s. s.basis.latest ≡ record { place = 0; count = 0 }) }
 {

@@ -27,7 +27,7 @@ use std::test::Fail;
 
 /// How a search goes on with the first of the visited list.
 #[derive(Clone, Copy)]
-pub(crate) enum Going {
+pub enum Going {
     /// The list behind it is visited.
     Pass,
     /// The two arguments of a goal are unified.
@@ -149,7 +149,7 @@ fn pairs(stack: &mut Stack, alloc: Global) -> Result<bool, Fail> {
 }
 
 /// Gives back what nothing holds: how many slots there are before and behind that.
-pub(crate) fn give_back(stack: &mut Stack, alloc: Global) -> Result<String, Fail>
+pub fn give_back(stack: &mut Stack, alloc: Global) -> Result<String, Fail>
     ensures basis { OnOk result (stack.new.basis ≡ stack.old.basis) }
 {
     let before = stack.env().slot_count();
@@ -178,7 +178,7 @@ fn divide(stack: &mut Stack, alloc: Global) -> Result<bool, Fail> {
 }
 
 /// Goes on so: what it tells.
-pub(crate) fn go_on(stack: &mut Stack, alloc: Global, by: Going) -> Result<String, Fail> {
+pub fn go_on(stack: &mut Stack, alloc: Global, by: Going) -> Result<String, Fail> {
     let word = match by {
         Going::Pass => {
             pass(stack)?;

@@ -20,7 +20,7 @@ use std::string::String;
 use std::test::Fail;
 
 /// The number of a level.
-pub(crate) fn number(level: Level) -> u64 {
+pub fn number(level: Level) -> u64 {
     level.cases_above(Level::BOTTOM)
 }
 
@@ -85,7 +85,7 @@ fn marker_text(alloc: Global, heap: &Heap, kind: MarkerKind, level: Level) -> Re
 }
 
 /// The text of the first of the visited list; `-`, where there are no goals.
-pub(crate) fn first_text(stack: &mut Stack, alloc: Global) -> Result<String, Fail>
+pub fn first_text(stack: &mut Stack, alloc: Global) -> Result<String, Fail>
     ensures basis { OnOk result (stack.new.basis ≡ stack.old.basis) }
 {
     match stack.first() {
@@ -118,7 +118,7 @@ fn case_text(stack: &Stack, alloc: Global) -> Result<String, Fail> {
 }
 
 /// How many cases are open, what the innermost one is, and what stands first in the visited list.
-pub(crate) fn state(stack: &mut Stack, alloc: Global) -> Result<String, Fail>
+pub fn state(stack: &mut Stack, alloc: Global) -> Result<String, Fail>
     ensures basis { OnOk result (stack.new.basis ≡ stack.old.basis) }
 {
     let depth = number(stack.depth());
