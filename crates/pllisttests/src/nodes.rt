@@ -33,7 +33,7 @@ struct Sides {
 }
 
 /// The arguments of a goal that stands at a node of a clause, if it has two.
-fn sides(stack: &Stack, run: ClauseGoals, node: u32) -> Result<Sides, Fail>
+fn sides_at(stack: &Stack, run: ClauseGoals, node: u32) -> Result<Sides, Fail>
     requires { (t : Tree) × IsArgument stack.now run node t }
     ensures left { IfOk result (λ s. (t : Tree) × IsArgument stack.now s.run s.pair.left t) }
     ensures right { IfOk result (λ s. (t : Tree) × IsArgument stack.now s.run s.pair.right t) }
@@ -65,7 +65,7 @@ fn first_sides(stack: &Stack) -> Result<Sides, Fail>
         return Err("no goal of a body".into());
     };
     let node = node_of(stack, &run, step, &rest)?;
-    sides(stack, run, node)
+    sides_at(stack, run, node)
 }
 
 /// A number, or the text of an error's term.

@@ -122,7 +122,7 @@ fn made_in(stack: &mut Stack, alloc: Global, how: Made, text: &str) -> Result<St
 }
 
 /// The same in a stack of a program.
-fn made(alloc: Global, how: Made, text: &str) -> Result<String, Fail> {
+fn made_of(alloc: Global, how: Made, text: &str) -> Result<String, Fail> {
     let mut stack = begun(alloc, "p.", "p")?;
     made_in(&mut stack, alloc, how, text)
 }
@@ -156,7 +156,7 @@ const MADE: [(Made, &str, &str); 12] = [
 fn rows_of_terms(rt: HostRuntime) -> Result<(), Fail> {
     let alloc = rt.alloc();
     for (how, text, wanted) in MADE {
-        let found = made(alloc, how, text)?;
+        let found = made_of(alloc, how, text)?;
         assert_eq!(rt; found.as_str(), wanted);
     }
     Ok(())

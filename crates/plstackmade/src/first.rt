@@ -28,7 +28,7 @@ pub struct Picked {
 }
 
 /// Picks a goal by its number.
-fn picked(level: Level, number: Option<Number>, rest: Continuation) -> Result<Picked, Fail>
+fn pick_by(level: Level, number: Option<Number>, rest: Continuation) -> Result<Picked, Fail>
     ensures level { IfOk result (λ p. p.level ≡ level) }
     ensures rest { IfOk result (λ p. p.rest ≡ rest) }
 {
@@ -62,7 +62,7 @@ fn pick_step(
     };
     let level = run.level;
     let number = stack.put_goal(run, step.goal, values)?;
-    picked(level, number, rest)
+    pick_by(level, number, rest)
 }
 
 /// Picks a goal that is a term: a list is made the values of its arguments.
@@ -80,7 +80,7 @@ fn pick_term(
     ensures level { IfOk result (λ p. Precedes (kinds_in stack.now) p.level (goals_of stack.now p.rest)) }
 {
     let number = arguments_of(stack.env().heap(), v, values)?;
-    picked(level, number, rest)
+    pick_by(level, number, rest)
 }
 
 /// Picks the first of the visited list, a goal that is no control construct of branches: a list is made the values of its arguments.

@@ -69,7 +69,7 @@ struct Cutting {
 }
 
 /// The level of the first of the visited list, a goal or a marker that commits, and the list behind it.
-fn cutting(stack: &Stack) -> Result<Cutting, Fail>
+fn cut_at(stack: &Stack) -> Result<Cutting, Fail>
     ensures there { IfOk result (λ c. IsList stack.now c.rest) }
     ensures level { IfOk result (λ c. Precedes (kinds_in stack.now) c.level (goals_of stack.now c.rest)) }
 {
@@ -86,7 +86,7 @@ fn cutting(stack: &Stack) -> Result<Cutting, Fail>
 
 /// Gives up the choices down to the level of the first of the visited list, and visits the list behind it.
 fn cut(stack: &mut Stack) -> Result<(), Fail> {
-    let Cutting { level, rest } = cutting(stack)?;
+    let Cutting { level, rest } = cut_at(stack)?;
     Ok(stack.cut(level, rest)?)
 }
 
