@@ -1,13 +1,15 @@
 -- Machines at a goal.
 use Rattle.std.specs.Prelude.{◌≡◌, ℕ, ◌≤◌, List, [], length, map}
 use Rattle.plcells.specs.declared.cell.Cell.{Cell}
-use Rattle.plcells.specs.Store.{value, AreValues, IsValue}
+use Rattle.plcells.specs.Store.{value, AreValues, IsValue, Store}
 use Rattle.plcode.specs.declared.callee.Number.{Number}
 use Rattle.plprogram.specs.Program.{Program}
 use Rattle.plgoals.specs.Callables.{called, IsCallable}
 use Rattle.pllinks.specs.declared.link.Continuation.{Continuation}
 use Rattle.plstack.specs.Levels.{Precedes}
 use Rattle.plstack.specs.State.{State, goals_of, kinds_in, IsFit, IsList}
+use Rattle.plmachine.specs.declared.machine.Find.{Find}
+use Rattle.plmachine.specs.declared.machine.Find.TheVariants as finds
 use Rattle.plmachine.specs.declared.machine.Machine.{Machine}
 use Rattle.plmachine.specs.declared.machine.Mode.TheVariants as modes
 use Rattle.plmachine.specs.Machine.{IsBegun, IsClosed, IsTied}
@@ -40,3 +42,10 @@ pub record IsCall (s : State) (goal : Cell) (number : Number) (args : List Cell)
   pub few : length args ≤ 1024
   pub callable : IsCallable s.env.heap.names number (length args)
   pub is : value s.env.heap goal ≡ called s.env.heap.names number (map (value s.env.heap) args)
+
+-- the values of what is sought are there
+abbrev pub AreThere : Store → Find → Type 0
+AreThere h (finds.First x g) = IsValue h x.goal
+AreThere h (finds.Exists c g) = IsValue h c
+AreThere h (finds.All c g) = IsValue h c
+AreThere h (finds.Sweep c w) = IsValue h c

@@ -2,7 +2,9 @@
 ghost use Rattle.std.specs.Prelude.{◌≡◌, IfOk, IfSome};
 ghost use Rattle.plcells.specs.Store.{IsValue};
 ghost use Rattle.pllinks.specs.Lists.{IsMarker};
+ghost use Rattle.plstack.specs.First.{IsFirst};
 ghost use Rattle.plstack.specs.State.{IsEmptyOrFit, IsList};
+ghost use Rattle.plstack.specs.declared.first.First.TheVariants.{Marker as MarkerFirst};
 
 use plcells::cell::Cell;
 use plcells::heap::Heap;
@@ -206,13 +208,16 @@ fn put_first(found: &mut String, alloc: Global, stack: &Stack) -> Result<Option<
         First::Marker(kind, level, rest) => {
             let text = marker_text(alloc, stack.env().heap(), kind)?;
             put(found, &text, level)?;
-            Ok(behind(kind, rest))
+            Ok(behind(stack, kind, level, rest))
         }
     }
 }
 
-/// The list behind a marker, which can be visited but where what is open ends.
-fn behind(kind: MarkerKind, rest: Continuation) -> Option<Continuation> {
+/// The list behind a marker that is first, which can be visited but where what is open ends.
+fn behind(stack: &Stack, kind: MarkerKind, level: Level, rest: Continuation) -> Option<Continuation>
+    requires { IsFirst stack.now (MarkerFirst kind level rest) }
+    ensures { IfSome result (λ l. IsList stack.now l × IsEmptyOrFit stack.now l) }
+{
     match kind {
         MarkerKind::Transact(_) => None,
         _ => Some(rest),

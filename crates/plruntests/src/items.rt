@@ -91,9 +91,10 @@ const FIRST: [(&[u8], u32, &str); 13] = [
 // An item that is cut off, an arity of 0, an unknown tag and a variable that leaves out a number are none.
 #[test]
 fn first_items(rt: HostRuntime) -> Result<(), Fail> {
-    for (bytes, seen, wanted) in FIRST {
-        let found = first(rt.alloc(), bytes, seen)?;
-        assert!(rt; found.as_str() == wanted, "{wanted}");
+    for row in FIRST.iter() {
+        let (bytes, seen, wanted) = row;
+        let found = first(rt.alloc(), bytes, *seen)?;
+        assert!(rt; found.as_str() == *wanted, "{wanted}");
     }
     Ok(())
 }

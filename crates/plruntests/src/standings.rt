@@ -14,8 +14,9 @@ enum Act {
     End,
 }
 
-/// One more entry: what main does.
-fn act_in(standing: &mut Standing, act: Act) {
+/// Whether a thread has ended the run, and whether each thread was started and has ended, behind what main does.
+fn ended(alloc: Global, act: Act) -> Result<(bool, bool), AllocError> {
+    let mut standing = Standing::blank(alloc)?;
     standing.start(WorkerId::FIRST, ThreadId::MAIN);
     match act {
         Act::Publish => standing.publish(),
@@ -23,12 +24,6 @@ fn act_in(standing: &mut Standing, act: Act) {
         Act::Leave => standing.leave(ThreadId::MAIN),
         Act::End => standing.end(ThreadId::MAIN, ThreadEnd::False),
     }
-}
-
-/// Whether a thread has ended the run, and whether each thread was started and has ended, behind what main does.
-fn ended(alloc: Global, act: Act) -> Result<(bool, bool), AllocError> {
-    let mut standing = Standing::blank(alloc)?;
-    act_in(&mut standing, act);
     Ok((standing.is_halted(), standing.threads.are_settled()))
 }
 

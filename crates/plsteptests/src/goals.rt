@@ -1,4 +1,5 @@
 //! What a goal that is selected makes of a machine (7.7.7), by its form, as a term, and as a step of a clause: each by its own call.
+ghost use Rattle.plmachine.specs.Machine.{IsBegun, IsTied};
 ghost use Rattle.plprogram.specs.Program.{Program as Given};
 ghost use Rattle.plmachinemade.specs.Ready.{IsReady};
 
@@ -58,7 +59,10 @@ fn step(program: &Program, machine: &mut Machine) -> Result<(), Fail>
 }
 
 /// The goal of a clause that is visited first, by its step.
-fn step_on(program: &Program, machine: &mut Machine) -> Result<(), Fail> {
+fn step_on(program: &Program, machine: &mut Machine) -> Result<(), Fail>
+    requires begun { IsBegun program.now machine.old }
+    requires tied { IsTied machine.old }
+{
     let Mode::Visit = &machine.mode else {
         return Err("no list is visited".into());
     };

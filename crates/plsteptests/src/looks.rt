@@ -1,5 +1,6 @@
 //! What look-ups go by and seek, and the clauses that are found as candidates: each by its own call.
 ghost use Rattle.plcells.specs.Store.{IsValue};
+ghost use Rattle.plmachinemade.specs.Ready.{AreThere};
 
 use plcells::cell::Cell;
 use plcells::heap::Heap;
@@ -104,7 +105,9 @@ fn lookup(purpose: Purpose, a: Cell, b: Cell) -> Lookup {
 }
 
 /// The text of what is sought in the view of a place.
-fn find_text(alloc: Global, heap: &Heap, find: &Find) -> Result<String, Fail> {
+fn find_text(alloc: Global, heap: &Heap, find: &Find) -> Result<String, Fail>
+    requires { AreThere heap.now find.now }
+{
     match find {
         Find::First(sought, view) => {
             let goal = shown(alloc, heap, sought.goal)?;
@@ -190,6 +193,12 @@ fn candidates_in(alloc: Global, program: &Program, uses: Use) -> Result<(String,
     candidates_of(alloc, clause, uses)
 }
 
+/// The same of the program of all machines.
+fn candidates(alloc: Global, uses: Use) -> Result<(String, String), Fail> {
+    let program = program(alloc)?;
+    candidates_in(alloc, &program, uses)
+}
+
 /// A clause as a candidate, as one of the text and as one with a name.
 fn candidates_of(alloc: Global, clause: &Clause, uses: Use) -> Result<(String, String), Fail> {
     let one = of_text(uses, clause)?;
@@ -238,9 +247,8 @@ fn rows_of_finds(rt: HostRuntime) -> Result<(), Fail> {
 
 #[test]
 fn rows_of_candidates(rt: HostRuntime) -> Result<(), Fail> {
-    let program = program(rt.alloc())?;
     for (uses, one, other) in CANDIDATES {
-        let found = candidates_in(rt.alloc(), &program, uses)?;
+        let found = candidates(rt.alloc(), uses)?;
         assert_eq!(rt; found.0.as_str(), one);
         assert_eq!(rt; found.1.as_str(), other);
     }

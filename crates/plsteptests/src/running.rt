@@ -1,6 +1,7 @@
 //! What the constructs that run a term as a goal, and those that end the run, make of a machine (7.8, 8.10, 8.15, 8.17): each by its own call.
 ghost use Rattle.std.specs.Prelude.{◌≡◌, ◌∷◌, [], IfOk};
 ghost use Rattle.plcells.specs.Store.{IsValue};
+ghost use Rattle.plmachine.specs.Running.{IsReady as IsReadied};
 ghost use Rattle.plprogram.specs.Program.{Program as Given};
 ghost use Rattle.plmachinemade.specs.Ready.{IsReady};
 
@@ -8,11 +9,12 @@ use plcells::cell::Cell;
 use pllinks::level::Level;
 use plmachine::finding::Finding;
 use plmachine::machine::{Machine, Outcome};
-use plmachine::running::Ready;
+use plmachine::running::{Ready, Running};
 use plmachinemade::made::{first_goal, machine, one, program, two, visit_goal};
 use plmachinemade::told::told;
 use plprogram::program::Program;
-use plstack::frame::Catcher;
+use plrefusals::predicate::Predicate;
+use plstack::frame::{Around, Catcher};
 use plterm::indicator::Indicator;
 use plterm::name::Name;
 use plterm::term::Term;
@@ -34,6 +36,10 @@ enum Row {
     BeginAt,
     Halt,
     HaltWith,
+    /// The argument is run as a goal of halt/1, as it stands.
+    Run,
+    /// The argument is the error for want of such a goal.
+    RunError,
     Ready,
     /// Copies of the first argument are gathered from a level on: one is kept for the level 1, and two for the level 2.
     Gather(u64),
@@ -129,6 +135,36 @@ fn halt_with(machine: &mut Machine) -> Result<(), Fail> {
     Ok(())
 }
 
+/// What a term comes to as a goal of halt/1 is run in a choice of its own.
+fn run(machine: &mut Machine, ready: Ready) -> Result<(), Fail>
+    requires { IsReadied machine.old.stack ready }
+{
+    let first = first_goal(machine)?;
+    let how = Running {
+        predicate: Predicate::Halt,
+        around: Around::Nothing,
+        level: machine.stack.depth(),
+        list: first.rest,
+    };
+    machine.run(ready, how)?;
+    Ok(())
+}
+
+/// The argument is run as it stands.
+fn run_goal(machine: &mut Machine) -> Result<(), Fail> {
+    let first = first_goal(machine)?;
+    let goal = one(&first.args)?;
+    run(machine, Ready::Runs(goal))
+}
+
+/// The argument is the error for want of a goal.
+fn run_error(machine: &mut Machine) -> Result<(), Fail> {
+    let first = first_goal(machine)?;
+    let v = one(&first.args)?;
+    let error = machine.stack.env().heap().take(machine.alloc, v)?;
+    run(machine, Ready::Raises(error))
+}
+
 /// The argument is visited as the goal that it is run as, or its error is that of foo/2.
 fn ready(machine: &mut Machine) -> Result<(), Fail> {
     let first = first_goal(machine)?;
@@ -185,6 +221,8 @@ fn call(machine: &mut Machine, row: Row) -> Result<(), Fail>
         Row::BeginAt => begin_at(machine),
         Row::Halt => halt(machine),
         Row::HaltWith => halt_with(machine),
+        Row::Run => run_goal(machine),
+        Row::RunError => run_error(machine),
         Row::Ready => ready(machine),
         Row::Gather(from) => gather(machine, from),
     }
@@ -212,7 +250,7 @@ fn made(alloc: Global, row: Row, text: &str) -> Result<String, Fail> {
 
 /// Calls, goals whose arguments they take, and what they make of a machine, as those of control. A goal that is run has a level of its own, above
 /// the cases that its construct opens, and an error is thrown inside of these.
-const ROWS: [(Row, &str, &str); 30] = [
+const ROWS: [(Row, &str, &str); 32] = [
     (
         Row::Once,
         "g((a, X))",
@@ -302,6 +340,12 @@ const ROWS: [(Row, &str, &str); 30] = [
         Row::HaltWith,
         "g(a)",
         "throws error(type_error(integer,a),halt/1) | plain 1 none 0",
+    ),
+    (Row::Run, "g(f(X))", "visits f(_1)@1 z@0 | plain 2 none 0"),
+    (
+        Row::RunError,
+        "g(f(X))",
+        "throws error(f(_1),halt/1) | plain 2 none 0",
     ),
     (Row::Ready, "g(a)", "visits a@0 z@0 | plain 1 none 0"),
     (
