@@ -18,6 +18,7 @@ use crate::machine::{Machine, Mode, Outcome, Question};
 use crate::running::Ready;
 use plcells::cell::Cell;
 use plerror::error;
+use plevent::JournalPlace;
 use pllinks::item::{MarkerKind, Portion};
 use pllinks::level::Level;
 use pllinks::link::Continuation;
@@ -72,7 +73,12 @@ impl Machine {
     }
 
     /// An outermost transaction or snapshot begins at a place, with the view of which it was answered, before the visited list.
-    pub fn begin_at(&mut self, kind: Isolation, place: u64, goal: Cell) -> Result<(), AllocError>
+    pub fn begin_at(
+        &mut self,
+        kind: Isolation,
+        place: JournalPlace,
+        goal: Cell,
+    ) -> Result<(), AllocError>
         requires goal { IsValue self.old.stack.env.heap goal }
         requires fits { IsFit self.old.stack self.old.stack.goals }
         requires tied { IsTied self.old }
@@ -85,7 +91,11 @@ impl Machine {
         let entry = self.entry(kind, goal, &rest)?;
         let before = self.layer.place();
         self.layer.begin(kind, place)?;
-        match self.stack.open_transaction(View { place, count: 0 }, rest) {
+        let view = View {
+            place: place.get(),
+            count: 0,
+        };
+        match self.stack.open_transaction(view, rest) {
             Ok(()) => {
                 self.start(entry);
                 Ok(())

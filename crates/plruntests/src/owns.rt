@@ -3,7 +3,7 @@ ghost use Rattle.std.specs.Prelude.{IfOk};
 ghost use Rattle.pltx.specs.Own.{IsOpen};
 
 use crate::made::{clause, indicator};
-use plevent::{Key, Update};
+use plevent::{JournalPlace, Key, Update};
 use plterm::error::TermError;
 use pltx::{Ended, Isolation, Own, OwnCursor};
 use std::alloc::{AllocError, Global};
@@ -14,7 +14,7 @@ pub fn three(alloc: Global) -> Result<Own, TermError>
     ensures { IfOk result (λ own. IsOpen own) }
 {
     let mut own = Own::new(alloc);
-    own.begin(Isolation::Transaction, 9)?;
+    own.begin(Isolation::Transaction, JournalPlace::new(9))?;
     own.add(Update::First(clause(alloc, "a")?))?;
     own.add(Update::First(clause(alloc, "b")?))?;
     own.add(Update::Last(clause(alloc, "c")?))?;

@@ -4,7 +4,7 @@ ghost use Rattle.plstore.specs.Rising.{AllBelowPlace};
 
 use crate::made::{clause, fact, indicator};
 use plclause::clause::Clause;
-use plevent::{Batch, ClauseName, Key, Update};
+use plevent::{Batch, ClauseName, JournalPlace, Key, Update};
 use plstore::record::Cursor;
 use plstore::store::Store;
 use plterm::error::TermError;
@@ -23,7 +23,7 @@ pub fn one_batch(alloc: Global) -> Result<Store, TermError> {
     updates.push(Update::EraseOwn(0))?;
     updates.push(Update::Declare(indicator(alloc, 2)?))?;
     let mut store = Store::new(alloc);
-    store.apply(alloc, &Batch::new(updates), 3)?;
+    store.apply(alloc, &Batch::new(updates), JournalPlace::new(3))?;
     Ok(store)
 }
 
@@ -42,7 +42,10 @@ fn clauses_of_a_batch(rt: HostRuntime) -> Result<(), Fail> {
     let store = one_batch(rt.alloc())?;
     for (number, here, body) in CLAUSES {
         let name = ClauseName { place: 3, number };
-        assert!(rt; store.alive(4, name) == here, "clause {number}");
+        assert!(rt;
+            store.alive(JournalPlace::new(4), name) == here,
+            "clause {number}"
+        );
         let clause = store.clause(name).ok_or("no clause")?;
         assert!(rt; has_body(rt.alloc(), clause, body)?, "clause {number}");
     }
@@ -55,7 +58,7 @@ fn walk(alloc: Global, store: &Store, g: u64) -> Result<Vec<u64>, AllocError> {
     let mut walk = Vec::new(alloc);
     let mut cursor = Cursor::Start;
     for _ in 0..3 {
-        if let Some(name) = store.next_visible(g, &pred, cursor) {
+        if let Some(name) = store.next_visible(JournalPlace::new(g), &pred, cursor) {
             walk.push(name.number)?;
             cursor = Cursor::After(name);
         }
@@ -81,7 +84,10 @@ fn procedures_of_a_batch(rt: HostRuntime) -> Result<(), Fail> {
     let store = one_batch(rt.alloc())?;
     for (arity, g, there) in EXISTS {
         let pred = indicator(rt.alloc(), arity)?;
-        assert!(rt; store.exists(g, &pred) == there, "p/{arity} at {g}");
+        assert!(rt;
+            store.exists(JournalPlace::new(g), &pred) == there,
+            "p/{arity} at {g}"
+        );
     }
     Ok(())
 }
@@ -117,7 +123,7 @@ fn keyed(alloc: Global) -> Result<Store, TermError> {
     }
     updates.push(Update::EraseOwn(1))?;
     let mut store = Store::new(alloc);
-    store.apply(alloc, &Batch::new(updates), 3)?;
+    store.apply(alloc, &Batch::new(updates), JournalPlace::new(3))?;
     Ok(store)
 }
 
@@ -155,7 +161,8 @@ fn next_number(
         None => Cursor::Start,
         Some(number) => Cursor::After(ClauseName { place: 3, number }),
     };
-    let next = store.next_like(4, &indicator(alloc, 1)?, &Key::Int(first), cursor);
+    let g = JournalPlace::new(4);
+    let next = store.next_like(g, &indicator(alloc, 1)?, &Key::Int(first), cursor);
     Ok(next.map(|name| name.number))
 }
 
@@ -182,12 +189,12 @@ fn renew(alloc: Global, store: &mut Store, place: u64) -> Result<(), TermError>
     let mut added = Vec::new(alloc);
     added.push(Update::Last(clause(alloc, "a")?))?;
     let addition = Batch::new(added);
-    store.apply(alloc, &addition, place)?;
+    store.apply(alloc, &addition, JournalPlace::new(place))?;
     let name = ClauseName { place, number: 0 };
     let mut erased = Vec::new(alloc);
     erased.push(Update::Erase(name))?;
     let erasure = Batch::new(erased);
-    store.apply(alloc, &erasure, place + 1)?;
+    store.apply(alloc, &erasure, JournalPlace::new(place + 1))?;
     Ok(())
 }
 
@@ -196,7 +203,7 @@ fn renewed(alloc: Global) -> Result<Store, TermError> {
     let mut declared = Vec::new(alloc);
     declared.push(Update::Declare(indicator(alloc, 0)?))?;
     let mut store = Store::new(alloc);
-    store.apply(alloc, &Batch::new(declared), 0)?;
+    store.apply(alloc, &Batch::new(declared), JournalPlace::START)?;
     for i in 0..TIMES {
         renew(alloc, &mut store, 2 * i + 1)?;
     }
@@ -205,6 +212,7 @@ fn renewed(alloc: Global) -> Result<Store, TermError> {
 
 /// The places of the clauses of p/0 that are alive at a time, up to two.
 fn places(alloc: Global, store: &Store, g: u64) -> Result<(Option<u64>, Option<u64>), AllocError> {
+    let g = JournalPlace::new(g);
     let pred = indicator(alloc, 0)?;
     let Some(first) = store.next_visible(g, &pred, Cursor::Start) else {
         return Ok((None, None));

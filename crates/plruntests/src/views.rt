@@ -5,7 +5,7 @@ ghost use Rattle.pltx.specs.Own.{IsOpen};
 use crate::made::indicator;
 use crate::owns::three;
 use crate::stores::one_batch;
-use plevent::{ClauseName, Key};
+use plevent::{ClauseName, JournalPlace, Key};
 use plstore::Store;
 use plterm::error::TermError;
 use pltx::{Own, OwnCursor, Target};
@@ -33,7 +33,7 @@ fn walk(alloc: Global, store: &Store, own: &Own, count: u64) -> Result<String, A
                 step = lookup.next(behind);
             }
             Step::Asks(cursor) => {
-                let name = store.next_like(9, &pred, &key, cursor);
+                let name = store.next_like(JournalPlace::new(9), &pred, &key, cursor);
                 step = lookup.found(name);
             }
             Step::Nothing => return Ok(walk),

@@ -34,7 +34,7 @@ impl Progress {
         ensures seeks { OnOk result (SeeksAnew self.new.machine.mode) }
     {
         self.places.reserve(1)?;
-        self.take_view(g.get())?;
+        self.take_view(g)?;
         match self.places.push(g) {
             Ok(()) => Ok(()),
             Err(_) => unreachable!(),
@@ -42,7 +42,7 @@ impl Progress {
     }
 
     /// What waited for a view goes on with that of a place.
-    fn take_view(&mut self, g: u64) -> Result<(), AllocError>
+    fn take_view(&mut self, g: JournalPlace) -> Result<(), AllocError>
         requires of { (P : Given) × IsOf P self.old.machine }
         requires waits { WaitsForView self.old }
         requires latest { latest_view self.old ≤ g }
@@ -70,7 +70,7 @@ impl Progress {
     }
 
     /// A look-up goes on in the view of a place.
-    fn look_in(&mut self, lookup: Lookup, g: u64) -> Result<(), AllocError>
+    fn look_in(&mut self, lookup: Lookup, g: JournalPlace) -> Result<(), AllocError>
         requires of { (P : Given) × IsOf P self.old.machine }
         requires looks { Asks self.old (LookOf lookup) }
         requires latest { latest_view self.old ≤ g }
@@ -81,7 +81,10 @@ impl Progress {
         ensures walks { walks_in self.new.machine.stack ≡ walks_in self.old.machine.stack }
         ensures seeks { OnOk result (SeeksAnew self.new.machine.mode) }
     {
-        let view = View { place: g, count: 0 };
+        let view = View {
+            place: g.get(),
+            count: 0,
+        };
         let find = self.machine.find_of(lookup, view)?;
         self.machine.stack.sees(view);
         self.machine.mode = Mode::Find(find);

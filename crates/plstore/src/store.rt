@@ -13,12 +13,13 @@ use crate::record::{Cursor, Declared, Record};
 use crate::sought::Sought;
 use crate::tables::{Tables, erase, make, make_all, reserve};
 use plclause::clause::Clause;
-use plevent::{Batch, ClauseName, Key, Update};
+use plevent::{Batch, ClauseName, JournalPlace, Key, Update};
 use plterm::indicator::Indicator;
 use std::alloc::{AllocError, Global};
 use std::marker::Model;
 
-/// The clauses of all batches so far, and the procedures declared.
+/// The clauses of all batches so far, and the procedures declared. Its times are places of the journal; in what it shares
+/// with a draft, whose times are counts of own updates, each time is a plain count.
 #[derive(Drop)]
 pub struct Store {
     tables: Tables,
@@ -49,11 +50,17 @@ impl Store {
     }
 
     /// Makes the updates of a batch, whose place is above those of all batches before it.
-    pub fn apply(&mut self, alloc: Global, batch: &Batch, place: u64) -> Result<(), AllocError>
+    pub fn apply(
+        &mut self,
+        alloc: Global,
+        batch: &Batch,
+        place: JournalPlace,
+    ) -> Result<(), AllocError>
         requires { AllBelowPlace place self.old.records }
         ensures made { OnOk result (self.new ≡ fold keep self.old (stamped place 0 batch.now)) }
         ensures refused { OnErr result (self.new ≡ self.old) }
     {
+        let place = place.get();
         let updates = batch.as_slice();
         if let [update] = updates {
             return self.make_one(update, place);
@@ -81,10 +88,10 @@ impl Store {
     }
 
     /// Whether a clause is alive after the batches below `g`.
-    pub fn alive(&self, g: u64, name: ClauseName) -> bool
+    pub fn alive(&self, g: JournalPlace, name: ClauseName) -> bool
         ensures { result ≡ here g name self.now }
     {
-        self.tables.alive(g, name)
+        self.tables.alive(g.get(), name)
     }
 
     /// The clause that was made with a name, alive or not.
@@ -96,7 +103,12 @@ impl Store {
 
     /// The name of the first clause of a procedure that is alive after the batches below `g`, or of the one behind that
     /// at the cursor; none where that one is the last, or is not among them.
-    pub fn next_visible(&self, g: u64, pred: &Indicator, cursor: Cursor) -> Option<ClauseName>
+    pub fn next_visible(
+        &self,
+        g: JournalPlace,
+        pred: &Indicator,
+        cursor: Cursor,
+    ) -> Option<ClauseName>
         ensures { result ≡ next_of cursor (names_of (walk g pred.now self.now.records)) }
     {
         self.next_like(g, pred, &Key::Any, cursor)
@@ -106,26 +118,30 @@ impl Store {
     /// over. The cursor may stand at any clause of the walk.
     pub fn next_like(
         &self,
-        g: u64,
+        g: JournalPlace,
         pred: &Indicator,
         key: &Key,
         cursor: Cursor,
     ) -> Option<ClauseName>
         ensures { result ≡ next_like_of key.now cursor (walk g pred.now self.now.records) }
     {
-        let sought = Sought { g, pred, key };
+        let sought = Sought {
+            g: g.get(),
+            pred,
+            key,
+        };
         self.tables.next_like(&sought, cursor)
     }
 
     /// Whether some batch below `g` named the procedure: it declared it, or made a clause of it.
-    pub fn exists(&self, g: u64, pred: &Indicator) -> bool
+    pub fn exists(&self, g: JournalPlace, pred: &Indicator) -> bool
         ensures { result ≡ is_there g pred.now self.now }
     {
-        self.tables.exists(g, pred)
+        self.tables.exists(g.get(), pred)
     }
 
     /// What a query finds in the database after the batches below `g`.
-    pub fn look(&self, g: u64, query: &Query) -> Result<Found, AllocError>
+    pub fn look(&self, g: JournalPlace, query: &Query) -> Result<Found, AllocError>
         ensures { IfOk result (λ f. f ≡ found_in g query.now self.now) }
     {
         match query {
@@ -153,10 +169,10 @@ impl Store {
     }
 
     /// The clause of a name, where it is alive after the batches below `g`.
-    fn clause_seen(&self, g: u64, name: ClauseName) -> Result<Option<Clause>, AllocError>
+    fn clause_seen(&self, g: JournalPlace, name: ClauseName) -> Result<Option<Clause>, AllocError>
         ensures { IfOk result (λ c. c ≡ clause_seen g name self.now) }
     {
-        match self.tables.clause_seen(g, name) {
+        match self.tables.clause_seen(g.get(), name) {
             None => Ok(None),
             Some(clause) => Ok(Some(clause.copied()?)),
         }

@@ -20,7 +20,7 @@ use crate::own::OwnCursor;
 use crate::sides::is_first;
 use crate::target::{Erasure, Target};
 use plclause::clause::Clause;
-use plevent::{Batch, ClauseName, Key, Update};
+use plevent::{Batch, ClauseName, JournalPlace, Key, Update};
 use plstore::{Cursor, Draft};
 use plterm::indicator::Indicator;
 use std::alloc::{AllocError, Global};
@@ -32,7 +32,7 @@ use std::mem::replace;
 pub(crate) struct Overlay {
     pub(crate) alloc: Global,
     /// The place of the journal that the outermost transaction began at.
-    pub(crate) base: u64,
+    pub(crate) base: JournalPlace,
     pub(crate) updates: Vec<Update>,
     /// The open levels, the innermost last.
     pub(crate) levels: Vec<Level>,
@@ -51,7 +51,7 @@ impl Overlay {
     {
         Overlay {
             alloc,
-            base: 0,
+            base: JournalPlace::START,
             updates: Vec::new(alloc),
             levels: Vec::new(alloc),
             draft: Draft::new(alloc),
@@ -61,7 +61,7 @@ impl Overlay {
     }
 
     /// Begins a transaction or a snapshot. The base counts for the outermost one alone.
-    pub(crate) fn begin(&mut self, kind: Isolation, base: u64) -> Result<(), AllocError>
+    pub(crate) fn begin(&mut self, kind: Isolation, base: JournalPlace) -> Result<(), AllocError>
         requires { IsOverlay self.old }
         ensures begun { OnOk result (state_of self.new ≡ begun kind base (state_of self.old)) }
         ensures refused { OnErr result (state_of self.new ≡ state_of self.old) }
@@ -159,7 +159,7 @@ impl Overlay {
         ensures closed { state_of self.new ≡ nothing }
         ensures kept { IsOverlay self.new }
     {
-        self.base = 0;
+        self.base = JournalPlace::START;
         self.before_fronts = 0;
         self.marks = HashMap::new(self.alloc);
         self.draft = Draft::new(self.alloc);

@@ -12,7 +12,7 @@ use crate::level::{Ended, Isolation};
 use crate::overlay::Overlay;
 use crate::target::{Erasure, Target};
 use plclause::clause::Clause;
-use plevent::{Key, Update};
+use plevent::{JournalPlace, Key, Update};
 use plterm::indicator::Indicator;
 use std::alloc::{AllocError, Global};
 use std::marker::Model;
@@ -57,7 +57,7 @@ impl Own {
     }
 
     /// Begins a transaction or a snapshot inside what is open. The base counts for the outermost one alone.
-    pub fn begin(&mut self, kind: Isolation, base: u64) -> Result<(), AllocError>
+    pub fn begin(&mut self, kind: Isolation, base: JournalPlace) -> Result<(), AllocError>
         ensures begun { OnOk result (self.new ≡ begun kind base self.old) }
         ensures refused { OnErr result (self.new ≡ self.old) }
     {
@@ -166,7 +166,7 @@ impl Own {
     }
 
     /// The place of the journal that the outermost one began at.
-    pub fn base(&self) -> u64
+    pub fn base(&self) -> JournalPlace
         requires { IsOpen self.now }
         ensures { result ≡ self.now.base }
     {

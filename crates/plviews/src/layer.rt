@@ -8,7 +8,7 @@ ghost use Rattle.pltx.specs.declared.level.Level.{Level};
 ghost use Rattle.plviews.specs.Layers.{bottom, Grows};
 
 use crate::view::View;
-use plevent::{ClauseName, Update};
+use plevent::{ClauseName, JournalPlace, Update};
 use pltx::{Ended, Erasure, Isolation, Own, Target};
 use std::alloc::{AllocError, Global};
 use std::marker::Model;
@@ -17,7 +17,7 @@ use std::marker::Model;
 #[derive(Drop)]
 pub struct Layer {
     own: Own,
-    place: Option<u64>,
+    place: Option<JournalPlace>,
 }
 
 impl Model for Layer {
@@ -51,7 +51,7 @@ impl Layer {
     }
 
     /// The place at which the outermost one was begun last, if one was.
-    pub fn place(&self) -> Option<u64>
+    pub fn place(&self) -> Option<JournalPlace>
         ensures is { result ≡ self.now.place }
         ensures closed { any_open self.now.own ≡ false → self.now.own ≡ nothing }
     {
@@ -74,13 +74,13 @@ impl Layer {
         ensures place { self.now.place ≡ Some self.now.own.base }
     {
         View {
-            place: self.own.base(),
+            place: self.own.base().get(),
             count: self.own.len(),
         }
     }
 
     /// Begins an outermost transaction or snapshot.
-    pub fn begin(&mut self, kind: Isolation, place: u64) -> Result<(), AllocError>
+    pub fn begin(&mut self, kind: Isolation, place: JournalPlace) -> Result<(), AllocError>
         requires { any_open self.old.own ≡ false }
         ensures begun { OnOk result (self.new ≡ record { own = begun kind place self.old.own; place = Some place }) }
         ensures refused { OnErr result (self.new ≡ self.old) }
@@ -101,7 +101,7 @@ impl Layer {
     }
 
     /// Takes back the beginning of an outermost transaction or snapshot: the place is what it was before.
-    pub fn cancel(&mut self, place: Option<u64>)
+    pub fn cancel(&mut self, place: Option<JournalPlace>)
         requires { (l : Level) × (self.old.own.levels ≡ l ∷ []) }
         ensures { self.new ≡ record { own = nothing; place = place } }
     {
@@ -170,10 +170,10 @@ fn end_inner(own: &mut Own, success: bool)
 }
 
 /// What the name of a clause means: own clauses have the place that they stand at.
-fn target_of(base: u64, name: ClauseName) -> Target
+fn target_of(base: JournalPlace, name: ClauseName) -> Target
     ensures { result ≡ target_at base name }
 {
-    if name.place == base {
+    if name.place == base.get() {
         return Target::Own(name.number);
     }
     Target::Committed(name)

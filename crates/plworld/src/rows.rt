@@ -6,7 +6,8 @@ ghost use Rattle.plevent.specs.Rows.{is_new, is_workers, is_halted, is_leave, st
 ghost use Rattle.plworld.specs.Worlds.{IsWorld};
 
 use plevent::{
-    Act, Batch, ClauseName, Reply, Request, Standing, Thread, ThreadEnd, ThreadId, Update,
+    Act, Batch, ClauseName, JournalPlace, Reply, Request, Standing, Thread, ThreadEnd, ThreadId,
+    Update,
 };
 use plstore::Store;
 use plterm::name::Name;
@@ -96,7 +97,7 @@ fn row_of(
             return Ok((Reply::Published, Some((thread, Act::Batch(batch)))));
         }
         Request::EraseOne(name) => {
-            let is_alive = store.alive(standing.size, name);
+            let is_alive = store.alive(JournalPlace::new(standing.size), name);
             return Ok(erase_of(is_alive, name, thread));
         }
         Request::Finish(end) => return Ok(finish_of(end, thread)),

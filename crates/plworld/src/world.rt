@@ -113,7 +113,7 @@ impl World {
     pub fn look(&self, g: JournalPlace, query: &Query) -> Result<Found, AllocError>
         ensures { IfOk result (λ f. f ≡ found (before g (reading self.now.journal).updates) query.now) }
     {
-        self.store.look(g.get(), query)
+        self.store.look(g, query)
     }
 
     /// The entries, in order.
@@ -183,7 +183,7 @@ fn change(
             return Ok(());
         }
         Act::Batch(batch) => {
-            store.apply(alloc, batch, standing.size)?;
+            store.apply(alloc, batch, JournalPlace::new(standing.size))?;
             standing.publish();
             return Ok(());
         }

@@ -10,4 +10,4 @@ returns-in-EraseOne c =
     let k = c.args.store.now in
     let x = c.in-EraseOne.name in
     let t = c.args.thread in
-    λ h w. c.erase_of.ensures ∙ ap (λ b. erase_row b x t) (c.alive-is_alive.ensures ∙ alive-now h s k x w) ∙ ap (λ q. row q t (reading h)) (sym c.in-EraseOne.is)
+    λ h w. c.erase_of.ensures ∙ ap (λ b. erase_row b x t) ((rw c.new.ensures at c.alive-is_alive.ensures) ∙ alive-now h s k x w) ∙ ap (λ q. row q t (reading h)) (sym c.in-EraseOne.is)

@@ -69,7 +69,7 @@ returns-in-Ok-clause-ok c P =
     (ap₂ (λ gs k. Go (Choice [] ∷ Handle Undo (record { goals = gs; variables = k }) ∷ Choice [] ∷ []) (record { goals = first_of r p (suc (suc d)) ∷ Marker (Transact d) (suc d) ∷ es; variables = k }) (record (local_of t) { own = begun c.args.kind c.args.place t.layer.own })) list.1 g.count
     ∙ ap (λ (x : Reached). opened c.args.kind c.args.place (value s.stack.env.heap c.args.goal) d es s.stack.env.count (local_of x)) frame
     ∙ ap (λ (l : Continuation). opened c.args.kind c.args.place (value s.stack.env.heap c.args.goal) d (goals_of s.stack l) s.stack.env.count (local_of s)) c.visited-rest.ensures.is)
-    (begins-outside P t l st c.start.new.self e r p (suc (suc d)) (Marker (Transact d) (suc d) ∷ es) c.in_ok-entry.ensures.ok fits c.args.kind tied none c.args.place (c.place-before.ensures.closed none) c.in-Ok.ensures.ok is)
+    (begins-outside P t l st c.start.new.self e r p (suc (suc d)) (Marker (Transact d) (suc d) ∷ es) c.in_ok-entry.ensures.ok fits c.args.kind tied none c.args.place (c.place-before.ensures.closed none) (rw c.get.ensures.is at c.in-Ok.ensures.ok) is)
 
 pub returns-in-Err-clause-err : goal.returns-in-Err-clause-err
 returns-in-Err-clause-err c P =

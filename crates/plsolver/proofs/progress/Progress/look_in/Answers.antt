@@ -19,14 +19,14 @@ returns-clause-ok c P b =
     let s = c.args.self.now in
     let t = c.find_of.new.self in
     looks-in P s (record s { machine = record t { stack = c.sees.new.self; mode = modes.Find c.in_ok-find.find } }) t c.args.lookup c.args.g c.in_ok-find.find c.requires.looks b c.requires.latest c.find_of.ensures.grown c.find_of.ensures.frame
-    c.in_ok-find.ensures.ok (ap (λ st. record t { stack = st; mode = modes.Find c.in_ok-find.find }) c.sees.ensures)
+    (rw c.get.ensures.is at c.in_ok-find.ensures.ok) (ap (λ st. record t { stack = st; mode = modes.Find c.in_ok-find.find }) (rw c.get.ensures.is at c.sees.ensures))
 
 pub returns-clause-of : goal.returns-clause-of
 returns-clause-of c P b =
     let s = c.args.self.now in
     let t = c.find_of.new.self in
     looks-of P s (record s { machine = record t { stack = c.sees.new.self; mode = modes.Find c.in_ok-find.find } }) t c.args.lookup c.args.g c.in_ok-find.find c.requires.looks b c.requires.latest c.find_of.ensures.grown c.find_of.ensures.frame
-    c.in_ok-find.ensures.ok (ap (λ st. record t { stack = st; mode = modes.Find c.in_ok-find.find }) c.sees.ensures)
+    (rw c.get.ensures.is at c.in_ok-find.ensures.ok) (ap (λ st. record t { stack = st; mode = modes.Find c.in_ok-find.find }) (rw c.get.ensures.is at c.sees.ensures))
 
 pub returns-clause-seeks : goal.returns-clause-seeks
 returns-clause-seeks c = c.in_ok-find.ensures.ok.first

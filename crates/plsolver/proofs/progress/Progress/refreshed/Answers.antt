@@ -8,5 +8,5 @@ returns-clause-ok c = λ P b v.
     let s = c.args.self.now in
     let t = c.take_view.new.self in
     let frame = c.take_view.ensures.frame in
-    let taken = rw c.get.ensures.is at (c.in_ok-take_view.ensures.ok P b) in
+    let taken = c.in_ok-take_view.ensures.ok P b in
     takes P v s (record t { places = c.push.new.self }) (Seen c.args.g (v c.args.g)) (ap (λ x. x.used) frame) (ap (λ x. x.limit) frame) (taken.takes v)
