@@ -13,7 +13,7 @@ use Rattle.plevent.specs.Search.{Item, View, Ask, Answer, Seen, Got, Next, Wants
 use Rattle.plhist.specs.Follows.{own, own_if, Taken, is_not_yet, noted, guarded, not_below, replied, answered, answer_at, item_at, takes, from_start, asks_of}
 use Rattle.plsearch.specs.Solving.{Goes, TakesOne}
 use Rattle.plstore.specs.Looking.{Views}
-use Rattle.plstore.specs.Rising.{AllUnder}
+use Rattle.plrecords.specs.Rising.{AllUnder}
 use Rattle.plstore.proofs.Names.{before-ordered}
 use Rattle.plviews.specs.Views.{AreOrdered}
 use Rattle.plworld.proofs.Push.{names-rise, view-stays}

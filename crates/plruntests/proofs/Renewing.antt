@@ -2,8 +2,8 @@
 use Rattle.std.proofs.Common.{◌≡◌, ℕ, ◌+◌, List, [], ◌∷◌, fold, ap, sym, subst, ◌∙◌, arith}
 use Rattle.plevent.specs.declared.update.Update.{Update}
 use Rattle.plevent.specs.Alive.{stamped, named}
-use Rattle.plstore.specs.Kept.{keep, Kept}
-use Rattle.plstore.specs.Rising.{AllBelowPlace}
+use Rattle.plrecords.specs.Kept.{keep, Kept}
+use Rattle.plrecords.specs.Rising.{AllBelowPlace}
 use Rattle.plstore.proofs.Search.{place-keep}
 
 pub one-more : (g : ℕ) (u : Update) (b : List Update) (old new : Kept) → b ≡ u ∷ [] → new ≡ fold keep old (stamped g 0 b) → AllBelowPlace g old.records → AllBelowPlace (g + 1) new.records

@@ -1,11 +1,11 @@
 //! The clauses of all batches (plstore).
 ghost use Rattle.std.specs.Prelude.{◌+◌, ◌<◌, ◌^◌, OnOk};
-ghost use Rattle.plstore.specs.Rising.{AllBelowPlace};
+ghost use Rattle.plrecords.specs.Rising.{AllBelowPlace};
 
 use crate::made::{clause, fact, indicator};
 use plclause::clause::Clause;
 use plevent::{Batch, ClauseName, JournalPlace, Key, Update};
-use plstore::record::Cursor;
+use plrecords::record::Cursor;
 use plstore::store::Store;
 use plterm::error::TermError;
 use plterm::name::Name;

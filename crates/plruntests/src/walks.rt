@@ -2,7 +2,8 @@
 use crate::made::{clause, fact, fact_of, indicator};
 use plclause::clause::Clause;
 use plevent::{Batch, ClauseName, JournalPlace, Key, Request, ThreadId, Update, WorkerId};
-use plstore::{Cursor, Found, Query};
+use plrecords::Cursor;
+use plstore::{Found, Query};
 use plterm::error::TermError;
 use plterm::name::Name;
 use plterm::term::Term;

@@ -4,7 +4,8 @@ use plevent::{
     Act, Batch, ClauseName, Entry, JournalPlace, Key, Reply, Request, ThreadEnd, ThreadId, Update,
     WorkerId,
 };
-use plstore::{Cursor, Found, Query};
+use plrecords::Cursor;
+use plstore::{Found, Query};
 use plterm::error::TermError;
 use plworld::world::World;
 use std::alloc::{AllocError, Global};

@@ -11,12 +11,12 @@ use Rattle.plevent.specs.declared.update.Living.{Living}
 use Rattle.plevent.specs.Alive.{Stamped, same_name, change_if, living, names_of}
 use Rattle.plevent.specs.Keys.{first_key}
 use Rattle.plstore.specs.declared.query.Query.{Query}
-use Rattle.plstore.specs.declared.record.Cursor.{Cursor}
-use Rattle.plstore.specs.declared.record.Cursor.TheVariants.{Start, After}
-use Rattle.plstore.specs.Kept.{head}
+use Rattle.plrecords.specs.declared.record.Cursor.{Cursor}
+use Rattle.plrecords.specs.declared.record.Cursor.TheVariants.{Start, After}
+use Rattle.plrecords.specs.Kept.{head}
 use Rattle.plstore.specs.Like.{fits, past, next_like_of}
 use Rattle.plstore.specs.Looking.{NoneNamed, Apart}
-use Rattle.plstore.specs.Rising.{Ordered}
+use Rattle.plrecords.specs.Rising.{Ordered}
 use Rattle.plstore.proofs.Names.{apart-alive}
 use Rattle.plstack.specs.declared.frame.Use.{Use}
 use Rattle.plstack.specs.declared.frame.Use.TheVariants as uses

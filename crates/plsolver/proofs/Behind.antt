@@ -9,7 +9,7 @@ use Rattle.plevent.specs.declared.update.ClauseName.{ClauseName}
 use Rattle.plevent.specs.declared.update.Living.{Living}
 use Rattle.plevent.specs.Alive.{lives_as}
 use Rattle.plevent.specs.Keys.{first_key}
-use Rattle.plstore.specs.declared.record.Cursor.{Cursor}
+use Rattle.plrecords.specs.declared.record.Cursor.{Cursor}
 use Rattle.plstore.specs.Looking.{clause_alive}
 use Rattle.plviews.specs.declared.lookup.Reach.{Reach}
 use Rattle.plviews.specs.declared.lookup.Reach.TheVariants as reaches

@@ -19,8 +19,8 @@ use Rattle.plsearch.specs.Types.{ToCall, Element, Local, Give, Fail}
 use Rattle.plsearch.specs.Moves.{choose}
 use Rattle.plsearch.specs.Lookups.{looked_up, missing}
 use Rattle.plstore.specs.Like.{fits, next_like_of}
-use Rattle.plstore.specs.declared.record.Cursor.{Cursor}
-use Rattle.plstore.specs.declared.record.Cursor.TheVariants.{Start}
+use Rattle.plrecords.specs.declared.record.Cursor.{Cursor}
+use Rattle.plrecords.specs.declared.record.Cursor.TheVariants.{Start}
 use Rattle.plstore.specs.Looking.{Views}
 use Rattle.plstore.proofs.Names.{exists-alive}
 use Rattle.pltx.specs.declared.own.OwnCursor.TheVariants.{Start as OwnStart}

@@ -21,7 +21,7 @@ use Rattle.plsearch.specs.Machines.Machine.{Rest, turn}
 use Rattle.plsearch.specs.Search.{ending_of}
 use Rattle.plsearch.proofs.Turns.{Rest-turn}
 use Rattle.plstore.specs.Like.{next_like_of}
-use Rattle.plstore.specs.declared.record.Cursor.{Cursor}
+use Rattle.plrecords.specs.declared.record.Cursor.{Cursor}
 use Rattle.plstore.specs.declared.query.Query.{Query}
 use Rattle.plstore.specs.declared.query.Found.{Found}
 use Rattle.plstore.specs.declared.query.Found.TheVariants.{Next as NextFound, Clause as ClauseFound, Alive as AliveFound, Exists as ExistsFound}

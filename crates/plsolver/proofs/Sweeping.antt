@@ -25,7 +25,7 @@ use Rattle.plsearch.specs.Search.{ending_of}
 use Rattle.plstore.specs.Like.{next_like_of}
 use Rattle.plstore.specs.Looking.{Views, clause_alive}
 use Rattle.plstore.specs.declared.query.Query.{Query}
-use Rattle.plstore.specs.declared.record.Cursor.{Cursor}
+use Rattle.plrecords.specs.declared.record.Cursor.{Cursor}
 use Rattle.pltx.specs.declared.own.OwnCursor.TheVariants.{Start as OwnStart}
 use Rattle.plviews.specs.declared.lookup.Reach.{Reach}
 use Rattle.plviews.specs.declared.lookup.Reach.TheVariants as reaches

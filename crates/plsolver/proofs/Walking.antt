@@ -8,7 +8,7 @@ use Rattle.plevent.specs.declared.update.Update.{Update}
 use Rattle.plevent.specs.Alive.{lives_as}
 use Rattle.plprogram.specs.Program.{Program}
 use Rattle.plstore.specs.declared.query.Query.{Query}
-use Rattle.plstore.specs.declared.record.Cursor.{Cursor}
+use Rattle.plrecords.specs.declared.record.Cursor.{Cursor}
 use Rattle.plstore.specs.Looking.{Views}
 use Rattle.plviews.specs.declared.lookup.Reach.{Reach}
 use Rattle.plviews.specs.declared.lookup.Reach.TheVariants as reaches

@@ -9,11 +9,11 @@ use Rattle.plevent.specs.declared.update.ClauseName.{ClauseName}
 use Rattle.plevent.specs.Alive.{Stamped, living, names_of}
 use Rattle.plevent.specs.Keys.{first_key}
 use Rattle.plstore.specs.declared.query.Query.{Query}
-use Rattle.plstore.specs.declared.record.Cursor.{Cursor}
-use Rattle.plstore.specs.declared.record.Cursor.TheVariants.{Start, After}
+use Rattle.plrecords.specs.declared.record.Cursor.{Cursor}
+use Rattle.plrecords.specs.declared.record.Cursor.TheVariants.{Start, After}
 use Rattle.plstore.specs.Like.{fits, rest}
 use Rattle.plstore.specs.Looking.{Views}
-use Rattle.plstore.specs.Rising.{Ordered}
+use Rattle.plrecords.specs.Rising.{Ordered}
 use Rattle.plviews.specs.declared.lookup.Reach.{Reach}
 use Rattle.plviews.specs.declared.lookup.Reach.TheVariants as reaches
 use Rattle.plviews.specs.declared.view.View.{View}

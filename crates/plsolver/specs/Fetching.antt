@@ -13,7 +13,7 @@ use Rattle.plevent.specs.Keys.{first_key}
 use Rattle.plevent.specs.declared.update.ClauseName.{ClauseName}
 use Rattle.plevent.specs.declared.update.Update.{Update}
 use Rattle.plevent.specs.declared.update.Update.TheVariants.{Erase}
-use Rattle.plstore.specs.declared.record.Cursor.{Cursor}
+use Rattle.plrecords.specs.declared.record.Cursor.{Cursor}
 use Rattle.plstore.specs.declared.query.Query.{Query}
 use Rattle.plstore.specs.declared.query.Found.{Found}
 use Rattle.pltx.specs.Walks.{own_batch, own_fronts}

@@ -7,10 +7,10 @@ use Rattle.plevent.specs.declared.update.Update.{Update}
 use Rattle.plevent.specs.Alive.{Stamped, living, lives_as}
 use Rattle.plclause.specs.Indicators.{indicator}
 use Rattle.plevent.specs.Keys.{first_key}
-use Rattle.plstore.specs.declared.record.Cursor.{Cursor}
+use Rattle.plrecords.specs.declared.record.Cursor.{Cursor}
 use Rattle.plstore.specs.Like.{next_like_of}
 use Rattle.plstore.specs.Looking.{clause_alive}
-use Rattle.plstore.specs.Rising.{AllUnder, Ordered}
+use Rattle.plrecords.specs.Rising.{AllUnder, Ordered}
 use Rattle.pltx.specs.Walks.{AllErasedApart}
 use Rattle.plviews.specs.declared.lookup.Reach.{Reach}
 use Rattle.plviews.specs.declared.lookup.Reach.TheVariants as reaches

@@ -24,9 +24,10 @@ use plclause::clause::Clause;
 use plevent::ClauseName;
 use plmachine::machine::{Find, Mode, SweepSpot};
 use plmachine::sought::{first_key, head_of};
+use plrecords::Cursor;
 use plrefusals::value::indicator_of;
 use plstack::frame::Spot;
-use plstore::{Cursor, Found, Query};
+use plstore::{Found, Query};
 use plviews::{Reach, View};
 use std::alloc::AllocError;
 

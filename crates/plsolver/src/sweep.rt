@@ -9,7 +9,7 @@ ghost use Rattle.plprogram.specs.Program.{Program as Given};
 ghost use Rattle.plstore.specs.Like.{next_like_of};
 ghost use Rattle.plstore.specs.Looking.{Views};
 ghost use Rattle.plstore.specs.declared.query.Query.TheVariants.{Exists as ExistsQuery};
-ghost use Rattle.plstore.specs.declared.record.Cursor.{Cursor as OfCursor};
+ghost use Rattle.plrecords.specs.declared.record.Cursor.{Cursor as OfCursor};
 ghost use Rattle.plviews.specs.Views.{AreOrdered};
 ghost use Rattle.plviews.specs.declared.lookup.Reach.{Reach as OfReach};
 ghost use Rattle.plviews.specs.declared.lookup.Reach.TheVariants.{Base as BaseOf, Front as FrontOf};

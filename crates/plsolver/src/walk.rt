@@ -10,7 +10,7 @@ ghost use Rattle.plprogram.specs.Program.{Program as Given};
 ghost use Rattle.plstore.specs.Like.{next_like_of};
 ghost use Rattle.plstore.specs.Looking.{clause_alive, Views};
 ghost use Rattle.plstore.specs.declared.query.Query.TheVariants.{Clause as ClauseQuery};
-ghost use Rattle.plstore.specs.declared.record.Cursor.{Cursor as OfCursor};
+ghost use Rattle.plrecords.specs.declared.record.Cursor.{Cursor as OfCursor};
 ghost use Rattle.plviews.specs.Views.{AreOrdered, IsUntouched};
 ghost use Rattle.plviews.specs.declared.lookup.Reach.{Reach as OfReach};
 ghost use Rattle.plviews.specs.declared.lookup.Reach.TheVariants.{Base as BaseOf};

@@ -5,19 +5,20 @@ use Rattle.plterm.specs.Indicators.{same_indicator}
 use Rattle.plevent.specs.Alive.{is_of}
 use Rattle.plclause.specs.Clause.{Clause}
 use Rattle.plevent.specs.declared.update.ClauseName.{ClauseName}
-use Rattle.plstore.specs.declared.record.Record.{Record}
-use Rattle.plstore.specs.declared.ends.Ends.{Ends}
-use Rattle.plstore.specs.declared.links.Links.{Links}
-use Rattle.plstore.specs.Kept.{made, changed_where, erase_at, is_named, is_there}
-use Rattle.plstore.specs.Links.{backs, ends_after, links_after, no_ends, Class, class_at, ends_in, since_below, IsIndexed, IsLinked}
-use Rattle.plstore.specs.Runs.{HasRuns, IsGone, SameRuns}
-use Rattle.plstore.specs.Trail.{SameLinks, SameTables}
-use Rattle.plstore.specs.Slots.{in_slot}
+use Rattle.plrecords.specs.declared.record.Record.{Record}
+use Rattle.plrecords.specs.declared.ends.Ends.{Ends}
+use Rattle.plrecords.specs.declared.links.Links.{Links}
+use Rattle.plrecords.specs.Kept.{made, changed_where, erase_at, is_named, is_there}
+use Rattle.plrecords.specs.Links.{backs, ends_after, links_after, no_ends, Class, class_at, ends_in, since_below, IsIndexed, IsLinked}
+use Rattle.plrecords.specs.Runs.{HasRuns, IsGone, SameRuns}
+use Rattle.plrecords.specs.Undone.{SameLinks}
+use Rattle.plstore.specs.Trail.{SameTables}
+use Rattle.plrecords.specs.Slots.{in_slot}
 use Rattle.plstore.specs.Chains.{IsChain}
 use Rattle.plstore.specs.Tables.{AreKeyed, Chained}
 use Rattle.plstore.specs.declared.tables.Tables.{Tables}
-use Rattle.plstore.proofs.Index.{any-put, ends-alike, erase-keeps, no-records}
-use Rattle.plstore.proofs.Passing.{linked, runs-erase, runs-same, same-self, no-runs}
+use Rattle.plrecords.proofs.Index.{any-put, ends-alike, erase-keeps, no-records}
+use Rattle.plrecords.proofs.Passing.{linked, runs-erase, runs-same, same-self, no-runs}
 
 -- keys that are equal only where they are the same
 module _ {K : Type 0} (eq : K → K → Bool) (same : (a b : K) → eq a b ≡ true → a ≡ b) (key : Clause → K) where

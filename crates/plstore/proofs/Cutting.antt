@@ -7,13 +7,13 @@ use Rattle.plevent.specs.declared.update.ClauseName.{ClauseName}
 use Rattle.plevent.specs.declared.update.Update.{Update}
 use Rattle.plevent.specs.declared.update.Update.TheVariants.{First, Last, Erase, EraseOwn, Declare}
 use Rattle.plevent.specs.Alive.{Stamped, before, named, change_if}
-use Rattle.plstore.specs.declared.record.Record.{Record}
-use Rattle.plstore.specs.declared.record.Declared.{Declared}
+use Rattle.plrecords.specs.declared.record.Record.{Record}
+use Rattle.plrecords.specs.declared.record.Declared.{Declared}
 use Rattle.plstore.specs.Cut.{cut, erased_below, restored}
-use Rattle.plstore.specs.Kept.{Kept, keep, keep_record, keep_declared, kept, noted, made, nothing, changed_where, erase_at, first_of, is_named}
+use Rattle.plrecords.specs.Kept.{Kept, keep, keep_record, keep_declared, kept, noted, made, nothing, changed_where, erase_at, first_of, is_named}
 use Rattle.std.proofs.lemmas.List.{append-nil}
 use Rattle.std.proofs.lemmas.List.Sums.{fold-append}
-use Rattle.plstore.specs.Rising.{AllBelowPlace, AllUnder, Rises}
+use Rattle.plrecords.specs.Rising.{AllBelowPlace, AllUnder, Rises}
 
 abbrev pub is_below : ℕ → Record → Bool
 is_below g r = nat_lt r.name.place g

@@ -5,20 +5,20 @@ use Rattle.std.specs.Option.{option_or}
 use Rattle.std.proofs.lemmas.List.{length-drop, length-map}
 use Rattle.std.proofs.lemmas.Bool.Decides.{nat_tests}
 use Rattle.plevent.specs.Alive.{change_if}
-use Rattle.plstore.specs.declared.ends.Ends.{Ends}
-use Rattle.plstore.specs.declared.links.Links.{Links}
-use Rattle.plstore.specs.declared.record.Record.{Record}
-use Rattle.plstore.specs.declared.runs.ErasedRun.{ErasedRun}
-use Rattle.plstore.specs.declared.runs.RecordNotes.{RecordNotes}
+use Rattle.plrecords.specs.declared.ends.Ends.{Ends}
+use Rattle.plrecords.specs.declared.links.Links.{Links}
+use Rattle.plrecords.specs.declared.record.Record.{Record}
+use Rattle.plrecords.specs.declared.runs.ErasedRun.{ErasedRun}
+use Rattle.plrecords.specs.declared.runs.RecordNotes.{RecordNotes}
 use Rattle.plstore.specs.Chains.{IsChain}
-use Rattle.plstore.specs.Kept.{seen}
-use Rattle.plstore.specs.Links.{last_below, first_from, first_end, front_of, back_of, fronts, backs, Class, IsIndexed, IsLinked, Marked}
+use Rattle.plrecords.specs.Kept.{seen}
+use Rattle.plrecords.specs.Links.{last_below, first_from, first_end, front_of, back_of, fronts, backs, Class, IsIndexed, IsLinked, Marked}
 use Rattle.plstore.specs.Merged.{MayStand}
-use Rattle.plstore.specs.Parts.{after, left, marks}
-use Rattle.plstore.specs.Runs.{end_at, no_place, AllGone, HasRuns}
-use Rattle.plstore.proofs.Bits.{LastIs, cases, get-drop, last-none, last-some, none-first}
-use Rattle.plstore.proofs.Chains.{mark-within, up-some}
-use Rattle.plstore.proofs.Passing.{first-above, hidden, linked}
+use Rattle.plrecords.specs.Parts.{after, left, marks}
+use Rattle.plrecords.specs.Runs.{end_at, no_place, AllGone, HasRuns}
+use Rattle.plrecords.proofs.Bits.{LastIs, cases, get-drop, last-none, last-some, none-first}
+use Rattle.plrecords.proofs.Chains.{mark-within, up-some}
+use Rattle.plrecords.proofs.Passing.{first-above, hidden, linked}
 use Rattle.plstore.proofs.Visible.{front-is, back-is}
 
 -- which records are of c, on one side

@@ -1,15 +1,10 @@
-pub mod Law
 pub mod Search
 pub mod Whole
 pub mod Look
-pub mod Bits
 pub mod Same
-pub mod Index
 pub mod Since
 pub mod Classes
 pub mod Plans
-pub mod Chains
-pub mod Passing
 pub mod Keys
 mod Worked
 pub mod Visible
@@ -19,5 +14,4 @@ pub mod Slotted
 pub mod Names
 pub mod Looking
 pub mod Cutting
-pub mod Backward
 pub mod Tracing

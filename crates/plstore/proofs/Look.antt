@@ -3,9 +3,9 @@ use Rattle.std.proofs.Common.{◌≡◌, ◌≢◌, refl, sym, ◌∙◌, ap, ar
 use Rattle.std.specs.Prelude.{find, ◌&&◌, ◌||◌}
 use Rattle.std.specs.List.{list_any}
 use Rattle.plevent.specs.declared.update.ClauseName.{ClauseName}
-use Rattle.plstore.specs.declared.record.Record.{Record}
-use Rattle.plstore.specs.Kept.{is_named, is_here, seen}
-use Rattle.plstore.specs.Rising.{NoneIs, OneIs}
+use Rattle.plrecords.specs.declared.record.Record.{Record}
+use Rattle.plrecords.specs.Kept.{is_named, is_here, seen}
+use Rattle.plrecords.specs.Rising.{NoneIs, OneIs}
 
 any-none : (t : Record → Bool) (rs : List Record) → ((k : ℕ) (d : Record) → k < length rs → t (get_or rs k d) ≡ false) → list_any t rs ≡ false
 any-none t [] h = refl

@@ -8,9 +8,9 @@ use Rattle.plevent.specs.declared.update.ClauseName.{ClauseName}
 use Rattle.plevent.specs.Alive.{Stamped, same_name, change_if, before, names_of, is_alive, lives, clause_named, made_in, clause_in, or_else}
 use Rattle.plstore.specs.declared.query.Query.{Query}
 use Rattle.plstore.specs.declared.query.Found.{Found}
-use Rattle.plstore.specs.Kept.{nothing, keep, next_of}
+use Rattle.plrecords.specs.Kept.{nothing, keep, next_of}
 use Rattle.plstore.specs.Like.{next_like_of}
-use Rattle.plstore.specs.Rising.{Rises}
+use Rattle.plrecords.specs.Rising.{Rises}
 use Rattle.plstore.specs.Looking.{found, found_in, clause_alive, clause_seen}
 use Rattle.plstore.proofs.Whole.{walk-is, here-is, there-is, clause-is}
 

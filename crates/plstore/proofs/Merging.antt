@@ -10,25 +10,25 @@ use Rattle.plevent.specs.declared.update.ClauseName.{ClauseName}
 use Rattle.plevent.specs.Alive.{change_if, is_of, or_else}
 use Rattle.plstore.specs.declared.chain.Chain.{Chain}
 use Rattle.plstore.specs.declared.chain.Chain.TheVariants.{Procedure, Slot}
-use Rattle.plstore.specs.declared.ends.Ends.{Ends}
-use Rattle.plstore.specs.declared.links.Links.{Links}
-use Rattle.plstore.specs.declared.record.Record.{Record}
+use Rattle.plrecords.specs.declared.ends.Ends.{Ends}
+use Rattle.plrecords.specs.declared.links.Links.{Links}
+use Rattle.plrecords.specs.declared.record.Record.{Record}
 use Rattle.plstore.specs.declared.tables.Tables.{Tables}
 use Rattle.plstore.specs.Chains.{in_chain, IsChain}
-use Rattle.plstore.specs.Kept.{seen, picked, walk}
+use Rattle.plrecords.specs.Kept.{seen, picked, walk}
 use Rattle.plstore.specs.Like.{fits, first_like, is_met, past, suits}
-use Rattle.plstore.specs.Links.{first_end, back_of, backs, down, last_below, up, Class, IsIndexed, Marked}
+use Rattle.plrecords.specs.Links.{first_end, back_of, backs, down, last_below, up, Class, IsIndexed, Marked}
 use Rattle.plstore.specs.declared.chain.Merged.{Merged}
-use Rattle.plstore.specs.declared.part.Part.{Part}
+use Rattle.plrecords.specs.declared.part.Part.{Part}
 use Rattle.plstore.specs.declared.sought.Sought.{Sought}
 use Rattle.plstore.specs.Merged.{found, found_after, Covers, IsMerged, MayStand}
-use Rattle.plstore.specs.Parts.{after, comes, extent, extent_behind, first_head, is_behind, left, marks, moved, reaches, side}
-use Rattle.plstore.specs.Rising.{OneIs}
-use Rattle.plstore.specs.Runs.{end_at, no_place}
+use Rattle.plrecords.specs.Parts.{after, comes, extent, extent_behind, first_head, is_behind, left, marks, moved, reaches, side}
+use Rattle.plrecords.specs.Rising.{OneIs}
+use Rattle.plrecords.specs.Runs.{end_at, no_place}
 use Rattle.plstore.specs.Tables.{chain_ends, links_in, Chained}
-use Rattle.plstore.proofs.Law.{cons_if, own}
-use Rattle.plstore.proofs.Bits.{cases, last-none, last-some}
-use Rattle.plstore.proofs.Chains.{drop-records, like-cons, some-record}
+use Rattle.plrecords.proofs.Law.{cons_if, own}
+use Rattle.plrecords.proofs.Bits.{cases, last-none, last-some}
+use Rattle.plrecords.proofs.Chains.{drop-records, like-cons, some-record}
 use Rattle.plstore.proofs.Leading.{after-within, mark-in, marks-is, over-within, side_of, stand-first, step-order, step-stands}
 use Rattle.plstore.proofs.Same.{left-true, right-true, nat-same, nat-self}
 use Rattle.plstore.proofs.Visible.{down-list, up-list, first-is, shown-front, shown-back}

@@ -11,10 +11,10 @@ use Rattle.plevent.specs.declared.update.Update.TheVariants.{First, Last, Erase,
 use Rattle.plevent.specs.declared.update.ClauseName.{ClauseName}
 use Rattle.plevent.specs.declared.update.Living.{Living}
 use Rattle.plevent.specs.Alive.{Stamped, same_name, is_of, named, change_if, lives_as, without, changed, change, living, before, exists, names, is_alive, lives, clause_named, made_in, clause_in, or_else}
-use Rattle.plstore.specs.Rising.{less, AllAfter, Ordered}
+use Rattle.plrecords.specs.Rising.{less, AllAfter, Ordered}
 use Rattle.plstore.specs.Looking.{NoneNamed, Apart, Tells, clause_alive}
 use Rattle.plstore.proofs.Search.{less-other, less-other-back}
-use Rattle.plstore.proofs.Law.{same-swap}
+use Rattle.plrecords.proofs.Law.{same-swap}
 use Rattle.plstore.proofs.Visible.{name-true}
 use Rattle.plstore.proofs.Whole.{or-none, or-assoc-3, or-nothing}
 

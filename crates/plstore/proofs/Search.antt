@@ -8,9 +8,9 @@ use Rattle.std.proofs.lemmas.List.Sums.{fold-append}
 use Rattle.plevent.specs.declared.update.Update.{Update}
 use Rattle.plevent.specs.declared.update.Update.TheVariants.{First, Last, Erase, EraseOwn, Declare}
 use Rattle.plevent.specs.Alive.{Stamped, stamped, named, same_name, change_if}
-use Rattle.plstore.specs.declared.record.Record.{Record}
-use Rattle.plstore.specs.Kept.{Kept, changed_where, is_named, erase_at, made, kept, keep, keep_record}
-use Rattle.plstore.specs.Rising.{less, IsRising, AllBelowPlace, InOrder, NoneIs, OneIs}
+use Rattle.plrecords.specs.declared.record.Record.{Record}
+use Rattle.plrecords.specs.Kept.{Kept, changed_where, is_named, erase_at, made, kept, keep, keep_record}
+use Rattle.plrecords.specs.Rising.{less, IsRising, AllBelowPlace, InOrder, NoneIs, OneIs}
 
 pub less-trans : (x y z : ClauseName) → less x y ≡ true → less y z ≡ true → less x z ≡ true
 less-trans x y z h k = grind (arith, nat_tests)

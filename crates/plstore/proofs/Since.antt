@@ -8,12 +8,12 @@ use Rattle.plterm.specs.Indicators.{same_indicator}
 use Rattle.plclause.specs.Clause.{Clause}
 use Rattle.plevent.specs.declared.update.ClauseName.{ClauseName}
 use Rattle.plevent.specs.Alive.{Stamped, names, change_if, is_of}
-use Rattle.plstore.specs.declared.ends.Ends.{Ends}
-use Rattle.plstore.specs.declared.record.Record.{Record}
-use Rattle.plstore.specs.declared.record.Declared.{Declared}
-use Rattle.plstore.specs.Kept.{Kept, is_there, keep, made, changed_where, declared_names, erase_at, is_named, record_names}
+use Rattle.plrecords.specs.declared.ends.Ends.{Ends}
+use Rattle.plrecords.specs.declared.record.Record.{Record}
+use Rattle.plrecords.specs.declared.record.Declared.{Declared}
+use Rattle.plrecords.specs.Kept.{Kept, is_there, keep, made, changed_where, declared_names, erase_at, is_named, record_names}
 use Rattle.plstore.specs.Plan.{put_update}
-use Rattle.plstore.specs.Links.{earlier, ends_after, since_below}
+use Rattle.plrecords.specs.Links.{earlier, ends_after, since_below}
 use Rattle.plstore.proofs.Same.{same-is}
 use Rattle.plstore.proofs.Whole.{there-keep, any-erased}
 

@@ -14,13 +14,13 @@ use Rattle.plevent.specs.declared.key.Key.TheVariants.{Any, Int, Atom, Functor}
 use Rattle.plevent.specs.Keys.{first_key, may_fit}
 use Rattle.plevent.specs.Alive.{is_of, change_if}
 use Rattle.plsubst.proofs.Unify.{same_int}
-use Rattle.plstore.specs.declared.record.Record.{Record}
-use Rattle.plstore.specs.Slots.{in_slot, pred_hash, slot, slot_behind, slot_of}
-use Rattle.plstore.specs.Kept.{made, changed_where, erase_at, is_named}
+use Rattle.plrecords.specs.declared.record.Record.{Record}
+use Rattle.plrecords.specs.Slots.{in_slot, pred_hash, slot, slot_behind, slot_of}
+use Rattle.plrecords.specs.Kept.{made, changed_where, erase_at, is_named}
 use Rattle.plstore.specs.Merged.{Covers}
 use Rattle.plstore.specs.Tables.{AreKeyed}
-use Rattle.plstore.proofs.Bits.{cases, length-push}
-use Rattle.plstore.proofs.Index.{length-erased}
+use Rattle.plrecords.proofs.Bits.{cases, length-push}
+use Rattle.plrecords.proofs.Index.{length-erased}
 use Rattle.plstore.proofs.Same.{left-true, right-true, nat-self, nat-same, same-is}
 
 -- the procedure's own chain has them all

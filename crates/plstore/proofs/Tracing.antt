@@ -5,18 +5,19 @@ use Rattle.std.proofs.lemmas.List.{reverse-append}
 use Rattle.plterm.specs.Indicators.{same_indicator}
 use Rattle.plevent.specs.declared.update.Update.{Update}
 use Rattle.plevent.specs.Alive.{named}
-use Rattle.plstore.specs.declared.ends.Ends.{Ends}
-use Rattle.plstore.specs.declared.links.Links.{Links}
+use Rattle.plrecords.specs.declared.ends.Ends.{Ends}
+use Rattle.plrecords.specs.declared.links.Links.{Links}
 use Rattle.plstore.specs.declared.tables.Tables.{Tables}
 use Rattle.plstore.specs.declared.trail.Change.{Change}
 use Rattle.plstore.specs.declared.trail.Step.{Step}
 use Rattle.plstore.specs.declared.trail.Traced.{Traced}
 use Rattle.plstore.specs.Cut.{cut}
-use Rattle.plstore.specs.Kept.{Kept, keep}
-use Rattle.plstore.specs.Rising.{IsRising}
+use Rattle.plrecords.specs.Kept.{Kept, keep}
+use Rattle.plrecords.specs.Rising.{IsRising}
 use Rattle.plstore.specs.Tables.{kept_in, Chained, IsStored}
-use Rattle.plstore.specs.Trail.{SameLinks, SameTables, IsLonger, WasAt, WasBefore, WasRecord, IsReady, IsStep, IsTraced, LeadsBack, IsBelowPlace}
-use Rattle.plstore.proofs.Backward.{had-same, more-same, same-join}
+use Rattle.plrecords.specs.Undone.{SameLinks, IsLonger, WasAt, WasRecord}
+use Rattle.plstore.specs.Trail.{SameTables, WasBefore, IsReady, IsStep, IsTraced, LeadsBack, IsBelowPlace}
+use Rattle.plrecords.proofs.Backward.{had-same, more-same, same-join}
 use Rattle.plstore.proofs.Classes.{chained-same}
 use Rattle.plstore.proofs.Cutting.{cut-above, cut-below, cut-places, cut-wider}
 use Rattle.plstore.proofs.Search.{order-keep, order-start}

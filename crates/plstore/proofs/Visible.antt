@@ -12,17 +12,17 @@ use Rattle.plevent.specs.declared.key.Key.TheVariants.{Any}
 use Rattle.plevent.specs.Keys.{first_key}
 use Rattle.plevent.specs.declared.update.Living.{Living}
 use Rattle.plevent.specs.Alive.{change_if, or_else, same_name, names_of, is_of}
-use Rattle.plstore.specs.declared.record.Record.{Record}
-use Rattle.plstore.specs.Kept.{seen, picked, in_front, behind_all, walk, head, behind, is_named, next_of}
-use Rattle.plstore.specs.declared.record.Cursor.{Cursor}
-use Rattle.plstore.specs.declared.record.Cursor.TheVariants.{Start, After}
+use Rattle.plrecords.specs.declared.record.Record.{Record}
+use Rattle.plrecords.specs.Kept.{seen, picked, in_front, behind_all, walk, head, behind, is_named, next_of}
+use Rattle.plrecords.specs.declared.record.Cursor.{Cursor}
+use Rattle.plrecords.specs.declared.record.Cursor.TheVariants.{Start, After}
 use Rattle.plstore.specs.Like.{fits, first_like, past, next_like_of}
-use Rattle.plstore.specs.Rising.{NoneIs, OneIs}
-use Rattle.plstore.specs.Links.{front_of, back_of, fronts, backs, down, up, Class}
+use Rattle.plrecords.specs.Rising.{NoneIs, OneIs}
+use Rattle.plrecords.specs.Links.{front_of, back_of, fronts, backs, down, up, Class}
 use Rattle.plstore.proofs.Keys.{any-left}
-use Rattle.plstore.proofs.Law.{cons_if, own}
-use Rattle.plstore.proofs.Bits.{cases}
-use Rattle.plstore.proofs.Chains.{down-step, up-step, drop-records, some-record}
+use Rattle.plrecords.proofs.Law.{cons_if, own}
+use Rattle.plrecords.proofs.Bits.{cases}
+use Rattle.plrecords.proofs.Chains.{down-step, up-step, drop-records, some-record}
 
 -- a walk is what comes downward, and then what comes upward
 pub walk-parts : (g : ℕ) (p : Indicator) (rs : List Record) → walk g p rs ≡ down (is_of p) g rs (length rs) ++ up (is_of p) g rs 0

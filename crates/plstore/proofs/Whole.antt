@@ -10,11 +10,11 @@ use Rattle.plterm.specs.declared.indicator.Indicator.{Indicator}
 use Rattle.plterm.specs.Indicators.{same_indicator}
 use Rattle.plevent.specs.declared.update.ClauseName.{ClauseName}
 use Rattle.plevent.specs.Alive.{Stamped, same_name, is_of, named, before, exists, names, is_alive, living, clause_named, made_in, clause_in, or_else, change_if}
-use Rattle.plstore.specs.declared.record.Record.{Record}
-use Rattle.plstore.specs.declared.record.Declared.{Declared}
-use Rattle.plstore.specs.Kept.{Kept, nothing, keep, keep_record, keep_declared, kept, noted, made, changed_where, erase_at, is_named, record_names, declared_names, is_there, here, clause_of, walk}
-use Rattle.plstore.specs.Rising.{Rises}
-use Rattle.plstore.proofs.Law.{walk-alive, walk-stays, alive-at}
+use Rattle.plrecords.specs.declared.record.Record.{Record}
+use Rattle.plrecords.specs.declared.record.Declared.{Declared}
+use Rattle.plrecords.specs.Kept.{Kept, nothing, keep, keep_record, keep_declared, kept, noted, made, changed_where, erase_at, is_named, record_names, declared_names, is_there, here, clause_of, walk}
+use Rattle.plrecords.specs.Rising.{Rises}
+use Rattle.plrecords.proofs.Law.{walk-alive, walk-stays, alive-at}
 
 pub keep-records : (k : Kept) (us : List Stamped) → (fold keep k us).records ≡ fold keep_record k.records us
 keep-records k [] = refl
@@ -34,7 +34,7 @@ pub here-is : (g : ℕ) (x : ClauseName) (us : List Stamped) → Rises 0 us → 
 here-is g x us up = ap (λ rs. list_any (λ r. is_named x r && seen_at r) rs) (keep-records nothing us) ∙ alive-at g x us up
   where
     seen_at : Record → Bool
-    seen_at r = Rattle.plstore.specs.Kept.seen g r
+    seen_at r = Rattle.plrecords.specs.Kept.seen g r
 
 -- lists of tests
 any-append : {A : Type 0} (t : A → Bool) (xs ys : List A) → list_any t (xs ++ ys) ≡ list_any t xs || list_any t ys

@@ -6,8 +6,8 @@ use Rattle.plclause.specs.Clause.{Clause}
 use Rattle.plevent.specs.declared.update.Update.TheVariants.{First, Last, Erase, Declare}
 use Rattle.plevent.specs.Alive.{stamped, named, names_of, clauses_of}
 use Rattle.plevent.specs.declared.key.Key.TheVariants.{Any, Int, Functor}
-use Rattle.plstore.specs.declared.record.Cursor.TheVariants.{Start, After}
-use Rattle.plstore.specs.Kept.{Kept, nothing, keep, walk, here, is_there, clause_of, next_of}
+use Rattle.plrecords.specs.declared.record.Cursor.TheVariants.{Start, After}
+use Rattle.plrecords.specs.Kept.{Kept, nothing, keep, walk, here, is_there, clause_of, next_of}
 use Rattle.plstore.specs.Cut.{cut}
 use Rattle.plstore.specs.Like.{next_like_of}
 use Rattle.plstore.specs.declared.query.Query.{Query}

@@ -4,12 +4,12 @@ use Rattle.plterm.specs.declared.indicator.Indicator.{Indicator}
 use Rattle.plevent.specs.Alive.{is_of}
 use Rattle.plstore.specs.declared.chain.Chain.{Chain}
 use Rattle.plstore.specs.declared.chain.Chain.TheVariants.{Procedure, Slot}
-use Rattle.plstore.specs.declared.ends.Ends.{Ends}
-use Rattle.plstore.specs.declared.links.Links.{Links}
-use Rattle.plstore.specs.declared.record.Record.{Record}
-use Rattle.plstore.specs.Links.{Class, IsIndexed}
-use Rattle.plstore.specs.Runs.{HasRuns}
-use Rattle.plstore.specs.Slots.{in_slot}
+use Rattle.plrecords.specs.declared.ends.Ends.{Ends}
+use Rattle.plrecords.specs.declared.links.Links.{Links}
+use Rattle.plrecords.specs.declared.record.Record.{Record}
+use Rattle.plrecords.specs.Links.{Class, IsIndexed}
+use Rattle.plrecords.specs.Runs.{HasRuns}
+use Rattle.plrecords.specs.Slots.{in_slot}
 
 -- the chain of a class: its links and ends are those of the records, and the runs of erased ones that are noted are there
 pub record IsChain (c : Class) (rs : List Record) (l : Links) (e : Ends) : Type 0 where

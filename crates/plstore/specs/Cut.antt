@@ -1,8 +1,8 @@
 -- What is kept of the batches below a place, of what is kept of all.
 use Rattle.std.specs.Prelude.{ℕ, map, filter, nat_lt, Option, Some, None}
 use Rattle.plevent.specs.Alive.{change_if}
-use Rattle.plstore.specs.declared.record.Record.{Record}
-use Rattle.plstore.specs.Kept.{Kept}
+use Rattle.plrecords.specs.declared.record.Record.{Record}
+use Rattle.plrecords.specs.Kept.{Kept}
 
 -- an erasure, where it is below g
 abbrev pub erased_below : ℕ → Option ℕ → Option ℕ

@@ -1,14 +1,8 @@
-pub mod Kept
 pub mod Like
 pub mod Looking
-pub mod Rising
-pub mod Links
-pub mod Runs
-pub mod Slots
 pub mod Plan
 pub mod Room
 pub mod Chains
-pub mod Parts
 pub mod Merged
 pub mod Tables
 pub mod Cut

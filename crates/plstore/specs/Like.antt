@@ -6,10 +6,10 @@ use Rattle.plevent.specs.declared.update.Living.{Living}
 use Rattle.plterm.specs.declared.indicator.Indicator.{Indicator}
 use Rattle.plevent.specs.Alive.{same_name, names_of, lives_as, change_if, is_of}
 use Rattle.plevent.specs.Keys.{first_key, may_fit}
-use Rattle.plstore.specs.declared.record.Record.{Record}
-use Rattle.plstore.specs.declared.record.Cursor.{Cursor}
-use Rattle.plstore.specs.declared.record.Cursor.TheVariants.{Start, After}
-use Rattle.plstore.specs.Kept.{head, seen}
+use Rattle.plrecords.specs.declared.record.Record.{Record}
+use Rattle.plrecords.specs.declared.record.Cursor.{Cursor}
+use Rattle.plrecords.specs.declared.record.Cursor.TheVariants.{Start, After}
+use Rattle.plrecords.specs.Kept.{head, seen}
 
 -- a clause may be for a goal of a key
 abbrev pub fits : Key → Living → Bool

@@ -6,7 +6,7 @@ use Rattle.plevent.specs.declared.update.Living.{Living}
 use Rattle.plevent.specs.Alive.{Stamped, same_name, change_if, living, names_of, exists, is_alive, clause_named}
 use Rattle.plstore.specs.declared.query.Query.{Query}
 use Rattle.plstore.specs.declared.query.Found.{Found}
-use Rattle.plstore.specs.Kept.{Kept, walk, here, is_there, clause_of, next_of}
+use Rattle.plrecords.specs.Kept.{Kept, walk, here, is_there, clause_of, next_of}
 use Rattle.plstore.specs.Like.{next_like_of}
 
 -- the updates of the batches below each place of a journal

@@ -6,15 +6,15 @@ use Rattle.plevent.specs.declared.update.ClauseName.{ClauseName}
 use Rattle.plevent.specs.Alive.{is_of, lives_as, or_else}
 use Rattle.plstore.specs.declared.chain.Chain.{Chain}
 use Rattle.plstore.specs.declared.chain.Merged.{Merged}
-use Rattle.plstore.specs.declared.part.Part.{Part}
-use Rattle.plstore.specs.declared.record.Record.{Record}
+use Rattle.plrecords.specs.declared.part.Part.{Part}
+use Rattle.plrecords.specs.declared.record.Record.{Record}
 use Rattle.plstore.specs.declared.sought.Sought.{Sought}
 use Rattle.plstore.specs.declared.tables.Tables.{Tables}
 use Rattle.plstore.specs.Chains.{in_chain}
-use Rattle.plstore.specs.Kept.{seen}
+use Rattle.plrecords.specs.Kept.{seen}
 use Rattle.plstore.specs.Like.{first_like, suits}
-use Rattle.plstore.specs.Links.{Class, Marked}
-use Rattle.plstore.specs.Parts.{after, extent, left, marks, side, whole}
+use Rattle.plrecords.specs.Links.{Class, Marked}
+use Rattle.plrecords.specs.Parts.{after, extent, left, marks, side, whole}
 use Rattle.plstore.specs.Tables.{links_in}
 
 -- each clause of p that may be for a goal of the key is in one of two classes

@@ -2,13 +2,8 @@
 use Rattle.std.specs.Prelude.{ℕ, ◌≤◌, ◌+◌, ◌^◌, vec_len}
 use Rattle.std.specs.Vec.{vec_capacity}
 use Rattle.std.specs.HashMap.{spare}
-use Rattle.plstore.specs.declared.links.Links.{Links}
+use Rattle.plrecords.specs.Room.{HasLinkRoom}
 use Rattle.plstore.specs.declared.tables.Tables.{Tables}
-
--- there is room for n more links
-pub record HasLinkRoom (n : ℕ) (l : Links) : Type 0 where
-  pub next : vec_len l.next + n ≤ vec_capacity l.next
-  pub places : vec_len l.places + n ≤ vec_capacity l.places
 
 -- there is room for n more updates
 pub record HasRoom (n : ℕ) (t : Tables) : Type 0 where

@@ -7,15 +7,15 @@ use Rattle.plevent.specs.Alive.{is_of}
 use Rattle.plevent.specs.Keys.{first_key}
 use Rattle.plstore.specs.declared.chain.Chain.{Chain}
 use Rattle.plstore.specs.declared.chain.Chain.TheVariants.{Procedure, Slot}
-use Rattle.plstore.specs.declared.ends.Ends.{Ends}
-use Rattle.plstore.specs.declared.links.Links.{Links}
-use Rattle.plstore.specs.declared.record.Record.{Record}
+use Rattle.plrecords.specs.declared.ends.Ends.{Ends}
+use Rattle.plrecords.specs.declared.links.Links.{Links}
+use Rattle.plrecords.specs.declared.record.Record.{Record}
 use Rattle.plstore.specs.declared.tables.Tables.{Tables}
 use Rattle.plstore.specs.Chains.{IsChain}
-use Rattle.plstore.specs.Kept.{Kept, is_there}
-use Rattle.plstore.specs.Links.{ends_in, since_below}
-use Rattle.plstore.specs.Rising.{IsRising}
-use Rattle.plstore.specs.Slots.{in_slot}
+use Rattle.plrecords.specs.Kept.{Kept, is_there}
+use Rattle.plrecords.specs.Links.{ends_in, since_below}
+use Rattle.plrecords.specs.Rising.{IsRising}
+use Rattle.plrecords.specs.Slots.{in_slot}
 
 abbrev pub kept_in : Tables → Kept
 kept_in t = record { records = t.records.items; declared = t.declared.items }

@@ -1,20 +1,20 @@
 //! What tables answer about the database at a time.
 ghost use Rattle.std.specs.Prelude.{◌≡◌};
 ghost use Rattle.std.specs.Option.{option_copied};
-ghost use Rattle.plstore.specs.Kept.{here, clause_of, is_there, walk};
+ghost use Rattle.plrecords.specs.Kept.{here, clause_of, is_there, walk};
 ghost use Rattle.plstore.specs.Like.{next_like_of};
 ghost use Rattle.plstore.specs.Looking.{clause_seen};
-ghost use Rattle.plstore.specs.Rising.{IsRising};
+ghost use Rattle.plrecords.specs.Rising.{IsRising};
 ghost use Rattle.plstore.specs.Tables.{kept_in, Chained, IsStored};
 
-use crate::ends::ends_of;
 use crate::named::find;
-use crate::record::Cursor;
 use crate::sought::Sought;
 use crate::steps::{first_sought, sought_after};
 use crate::tables::Tables;
 use plclause::clause::Clause;
 use plevent::ClauseName;
+use plrecords::ends::ends_of;
+use plrecords::record::Cursor;
 use plterm::indicator::Indicator;
 
 impl Tables {

@@ -3,17 +3,17 @@ ghost use Rattle.std.specs.Prelude.{◌≡◌, ◌≢◌, None, true};
 ghost use Rattle.plevent.specs.Alive.{is_of};
 ghost use Rattle.plevent.specs.declared.key.Key.TheVariants.{Any};
 ghost use Rattle.plstore.specs.Chains.{in_chain};
-ghost use Rattle.plstore.specs.Links.{first_end};
+ghost use Rattle.plrecords.specs.Links.{first_end};
 ghost use Rattle.plstore.specs.Merged.{IsMerged};
 ghost use Rattle.plstore.specs.Tables.{chain_ends, links_in, Chained};
 
-use crate::ends::{Ends, ends_of};
-use crate::links::Links;
-use crate::record::Record;
-use crate::slot::Slots;
 use crate::sought::Sought;
 use crate::tables::Tables;
 use plevent::Key;
+use plrecords::ends::{Ends, ends_of};
+use plrecords::links::Links;
+use plrecords::record::Record;
+use plrecords::slot::Slots;
 use plterm::indicator::Indicator;
 
 /// Which links are walked: those of a procedure's clauses, or those of a slot's.

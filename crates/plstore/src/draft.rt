@@ -3,17 +3,17 @@ ghost use Rattle.std.specs.Prelude.{◌≡◌, [], ◌∷◌, OnOk, OnErr, fold}
 ghost use Rattle.std.specs.Option.{option_copied};
 ghost use Rattle.plevent.specs.Alive.{stamped};
 ghost use Rattle.plstore.specs.Cut.{cut};
-ghost use Rattle.plstore.specs.Kept.{keep, nothing, here, clause_of, is_there, walk, behind_all, picked};
+ghost use Rattle.plrecords.specs.Kept.{keep, nothing, here, clause_of, is_there, walk, behind_all, picked};
 ghost use Rattle.plstore.specs.Like.{first_like, next_like_of};
 
 use crate::plan::made_plan;
-use crate::record::{Cursor, Declared, Record};
 use crate::sought::Sought;
 use crate::steps::first_back;
 use crate::tables::Tables;
 use crate::trail::Traced;
 use plclause::clause::Clause;
 use plevent::{ClauseName, Key, Update};
+use plrecords::record::{Cursor, Declared, Record};
 use plterm::indicator::Indicator;
 use std::alloc::{AllocError, Global};
 use std::marker::Model;
@@ -26,7 +26,7 @@ pub struct Draft {
 }
 
 impl Model for Draft {
-    ghost use Rattle.plstore.specs.Kept.{Kept, kept_code};
+    ghost use Rattle.plrecords.specs.Kept.{Kept, kept_code};
 
     ghost Value = { Kept };
 

@@ -8,10 +8,10 @@ ghost use Rattle.plclause.specs.Clause.{Clause};
 ghost use Rattle.plterm.specs.declared.indicator.Indicator.{Indicator};
 ghost use Rattle.plevent.specs.declared.update.ClauseName.{ClauseName};
 ghost use Rattle.plevent.specs.Alive.{Stamped, before, living, is_alive, exists, clause_named};
-ghost use Rattle.plstore.specs.Kept.{Kept, keep, nothing, walk, here, is_there, clause_of};
+ghost use Rattle.plrecords.specs.Kept.{Kept, keep, nothing, walk, here, is_there, clause_of};
 ghost use Rattle.plstore.specs.Looking.{found, found_in, clause_alive, Apart, Tells};
 ghost use Rattle.plstore.specs.Cut.{cut};
-ghost use Rattle.plstore.specs.Rising.{AllUnder, Rises, Ordered};
+ghost use Rattle.plrecords.specs.Rising.{AllUnder, Rises, Ordered};
 ghost use Rattle.plstore.specs.declared.query.Query.{Query};
 ghost use Rattle.plevent.specs.declared.update.Living.{Living};
 

@@ -1,10 +1,10 @@
 //! Where the record of a name stands.
 ghost use Rattle.std.specs.Prelude.{◌≡◌, ◌<◌, ◌≤◌, true, MatchOption};
-ghost use Rattle.plstore.specs.Rising.{less, IsRising, NoneIs, OneIs};
+ghost use Rattle.plrecords.specs.Rising.{less, IsRising, NoneIs, OneIs};
 
-use crate::record::Record;
-use crate::starts::Starts;
 use plevent::ClauseName;
+use plrecords::record::Record;
+use plrecords::starts::Starts;
 
 /// Which record is looked at next.
 #[derive(Clone, Copy)]

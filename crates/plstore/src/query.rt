@@ -1,7 +1,7 @@
 //! What is asked of the database at a time, and the answers.
-use crate::record::Cursor;
 use plclause::clause::Clause;
 use plevent::{ClauseName, Key};
+use plrecords::record::Cursor;
 use plterm::indicator::Indicator;
 
 /// What is asked of the database at a time.

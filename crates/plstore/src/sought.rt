@@ -1,11 +1,11 @@
 //! What a walk looks for.
 ghost use Rattle.std.specs.Prelude.{◌≡◌, ◌&&◌};
 ghost use Rattle.plevent.specs.Alive.{is_of};
-ghost use Rattle.plstore.specs.Kept.{seen};
+ghost use Rattle.plrecords.specs.Kept.{seen};
 ghost use Rattle.plstore.specs.Like.{is_met};
 
-use crate::record::Record;
 use plevent::Key;
+use plrecords::record::Record;
 use plterm::indicator::Indicator;
 
 /// The clauses of a procedure that are alive after the batches below `g` and may be for a goal of a key.

@@ -3,21 +3,21 @@ ghost use Rattle.std.specs.Prelude.{◌≡◌, ◌<◌, IfSome, Some, false, len
 ghost use Rattle.plevent.specs.declared.update.ClauseName.{ClauseName as Named};
 ghost use Rattle.plevent.specs.declared.key.Key.TheVariants.{Any};
 ghost use Rattle.plstore.specs.Chains.{in_chain};
-ghost use Rattle.plstore.specs.Kept.{behind_all, picked, walk};
+ghost use Rattle.plrecords.specs.Kept.{behind_all, picked, walk};
 ghost use Rattle.plstore.specs.Like.{first_like, past};
-ghost use Rattle.plstore.specs.Links.{Marked};
+ghost use Rattle.plrecords.specs.Links.{Marked};
 ghost use Rattle.plstore.specs.Merged.{found, found_from, IsMerged};
-ghost use Rattle.plstore.specs.Parts.{marks};
-ghost use Rattle.plstore.specs.Rising.{IsRising, OneIs};
+ghost use Rattle.plrecords.specs.Parts.{marks};
+ghost use Rattle.plrecords.specs.Rising.{IsRising, OneIs};
 ghost use Rattle.plstore.specs.Tables.{chain_ends, Chained};
 
 use crate::chain::{Chain, Merged, MergedEnds, merge};
 use crate::named::find;
-use crate::part::Part;
 use crate::sought::Sought;
 use crate::tables::Tables;
 use crate::walk::{heads, onward, record_at, seek, seek_any};
 use plevent::{ClauseName, Key};
+use plrecords::part::Part;
 
 /// The name of the first clause that is sought.
 pub(crate) fn first_sought(tables: &Tables, sought: &Sought<'_>) -> Option<ClauseName>

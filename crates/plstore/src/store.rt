@@ -2,18 +2,18 @@
 ghost use Rattle.std.specs.Prelude.{◌≡◌, IfOk, OnOk, OnErr, fold, length};
 ghost use Rattle.std.specs.Option.{option_copied};
 ghost use Rattle.plevent.specs.Alive.{named, names_of, stamped};
-ghost use Rattle.plstore.specs.Kept.{keep, nothing, here, clause_of, is_there, next_of, walk};
+ghost use Rattle.plrecords.specs.Kept.{keep, nothing, here, clause_of, is_there, next_of, walk};
 ghost use Rattle.plstore.specs.Like.{next_like_of};
 ghost use Rattle.plstore.specs.Looking.{clause_seen, found_in};
-ghost use Rattle.plstore.specs.Rising.{AllBelowPlace};
+ghost use Rattle.plrecords.specs.Rising.{AllBelowPlace};
 
 use crate::plan::{made_plan, plan};
 use crate::query::{Found, Query};
-use crate::record::{Cursor, Declared, Record};
 use crate::sought::Sought;
 use crate::tables::{Tables, erase, make, make_all, reserve};
 use plclause::clause::Clause;
 use plevent::{Batch, ClauseName, JournalPlace, Key, Update};
+use plrecords::record::{Cursor, Declared, Record};
 use plterm::indicator::Indicator;
 use std::alloc::{AllocError, Global};
 use std::marker::Model;
@@ -26,7 +26,7 @@ pub struct Store {
 }
 
 impl Model for Store {
-    ghost use Rattle.plstore.specs.Kept.{Kept, kept_code};
+    ghost use Rattle.plrecords.specs.Kept.{Kept, kept_code};
 
     ghost Value = { Kept };
 

@@ -4,7 +4,7 @@ ghost use Rattle.std.specs.Vec.{vec_capacity};
 ghost use Rattle.plclause.specs.Indicators.{indicator};
 ghost use Rattle.plevent.specs.Alive.{named};
 ghost use Rattle.plstore.specs.Cut.{cut};
-ghost use Rattle.plstore.specs.Kept.{keep};
+ghost use Rattle.plrecords.specs.Kept.{keep};
 ghost use Rattle.plstore.specs.Plan.{put_update, update_of, IsPlanned};
 ghost use Rattle.plstore.specs.Room.{HasRoom};
 ghost use Rattle.plstore.specs.Tables.{kept_in};
@@ -12,13 +12,13 @@ ghost use Rattle.plstore.specs.Trail.{IsBelowPlace, IsReady, IsTraced, SameTable
 ghost use Rattle.plstore.specs.declared.tables.Tables.{Tables as Tabled};
 ghost use Rattle.plevent.specs.declared.update.Update.TheVariants.{Declare, Erase};
 
-use crate::ends::Ends;
 use crate::plan::Planned;
 use crate::tables::{
     Erasure, Linked, Tables, declare, erase, put, reserve, revive, undeclare, unput,
 };
 use plclause::clause::Clause;
 use plevent::ClauseName;
+use plrecords::ends::Ends;
 use plterm::indicator::Indicator;
 use std::alloc::AllocError;
 

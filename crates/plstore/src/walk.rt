@@ -2,19 +2,19 @@
 ghost use Rattle.std.specs.Prelude.{◌≡◌, ◌<◌, IfSome, Some, length, slice_index_or, true};
 ghost use Rattle.plevent.specs.declared.key.Key.TheVariants.{Any};
 ghost use Rattle.plstore.specs.Chains.{in_chain};
-ghost use Rattle.plstore.specs.Links.{Marked};
+ghost use Rattle.plrecords.specs.Links.{Marked};
 ghost use Rattle.plstore.specs.Merged.{found, IsMerged, MayBegin, MayStand};
-ghost use Rattle.plstore.specs.Parts.{extent, marks};
+ghost use Rattle.plrecords.specs.Parts.{extent, marks};
 ghost use Rattle.plstore.specs.Tables.{chain_ends, Chained};
 
 use crate::chain::{Chain, Merged, MergedEnds};
-use crate::ends::{Ends, wide};
-use crate::leap::near;
-use crate::part::{Heads, Part};
-use crate::record::Record;
 use crate::sought::Sought;
 use crate::tables::Tables;
 use plevent::ClauseName;
+use plrecords::ends::{Ends, wide};
+use plrecords::leap::near;
+use plrecords::part::{Heads, Part};
+use plrecords::record::Record;
 
 /// The name of the first clause of a part that is sought, from where a walk over it may begin.
 pub(crate) fn seek(

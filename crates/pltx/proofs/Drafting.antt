@@ -12,8 +12,8 @@ use Rattle.plevent.specs.declared.update.Update.{Update}
 use Rattle.plevent.specs.declared.update.Update.TheVariants.{First, Last, Erase, EraseOwn, Declare}
 use Rattle.plevent.specs.Alive.{Stamped, stamped, named, change_if, before, exists, names}
 use Rattle.plstore.specs.Cut.{cut}
-use Rattle.plstore.specs.Kept.{Kept, keep, nothing}
-use Rattle.plstore.specs.Rising.{AllUnder, Rises}
+use Rattle.plrecords.specs.Kept.{Kept, keep, nothing}
+use Rattle.plrecords.specs.Rising.{AllUnder, Rises}
 use Rattle.plstore.proofs.Cutting.{cut-is, under-cut}
 use Rattle.pltx.specs.declared.overlay.Overlay.{Overlay}
 use Rattle.pltx.specs.declared.target.Target.{Target}

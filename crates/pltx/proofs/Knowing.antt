@@ -9,7 +9,7 @@ use Rattle.plevent.specs.declared.update.Update.TheVariants.{First, Last, Erase,
 use Rattle.plevent.specs.Alive.{stamped, named, same_name, change_if, lives, is_alive, clause_named, or_else}
 use Rattle.plstore.specs.declared.query.Query.{Query}
 use Rattle.plstore.specs.declared.query.Found.{Found}
-use Rattle.plstore.specs.Kept.{Kept, keep, nothing}
+use Rattle.plrecords.specs.Kept.{Kept, keep, nothing}
 use Rattle.plstore.specs.Looking.{clause_alive, clause_seen}
 use Rattle.plstore.proofs.Looking.{look-is}
 use Rattle.pltx.specs.Overlays.{drafted}

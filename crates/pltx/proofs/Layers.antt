@@ -12,7 +12,7 @@ use Rattle.plevent.specs.declared.update.Living.{Living}
 use Rattle.plevent.specs.declared.update.Update.{Update}
 use Rattle.plevent.specs.declared.update.Update.TheVariants.{First, Last, Erase, EraseOwn, Declare}
 use Rattle.plevent.specs.Alive.{Stamped, stamped, named, same_name, is_of, lives_as, change_if, without, change, changed, living, before, view}
-use Rattle.plstore.specs.Rising.{AllUnder}
+use Rattle.plrecords.specs.Rising.{AllUnder}
 use Rattle.pltx.specs.declared.target.Target.TheVariants.{Committed}
 use Rattle.pltx.specs.Own.{erased_in}
 use Rattle.pltx.specs.Walks.{no_first, no_last, not_erased, own_backs, own_batch, own_fronts}

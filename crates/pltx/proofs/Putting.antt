@@ -14,12 +14,12 @@ use Rattle.plevent.specs.declared.update.Living.{Living}
 use Rattle.plevent.specs.declared.update.Update.{Update}
 use Rattle.plevent.specs.declared.update.Update.TheVariants.{First, Last, Erase, EraseOwn, Declare}
 use Rattle.plevent.specs.Alive.{stamped, named, same_name, is_of, lives_as, change_if, without, change, living, names_of}
-use Rattle.plstore.specs.declared.record.Record.{Record}
-use Rattle.plstore.specs.declared.record.Cursor.{Cursor}
-use Rattle.plstore.specs.declared.record.Cursor.TheVariants.{Start, After}
-use Rattle.plstore.specs.Kept.{Kept, keep, nothing, keep_record, made, changed_where, erase_at, is_named, seen, in_front, behind_all, picked, walk, head}
+use Rattle.plrecords.specs.declared.record.Record.{Record}
+use Rattle.plrecords.specs.declared.record.Cursor.{Cursor}
+use Rattle.plrecords.specs.declared.record.Cursor.TheVariants.{Start, After}
+use Rattle.plrecords.specs.Kept.{Kept, keep, nothing, keep_record, made, changed_where, erase_at, is_named, seen, in_front, behind_all, picked, walk, head}
 use Rattle.plstore.specs.Like.{fits, first_like, past, next_like_of}
-use Rattle.plstore.proofs.Law.{cons_if, own, picked-cons}
+use Rattle.plrecords.proofs.Law.{cons_if, own, picked-cons}
 use Rattle.plstore.proofs.Whole.{keep-records, walk-is}
 use Rattle.pltx.specs.Overlays.{drafted}
 use Rattle.pltx.specs.Walks.{no_first, no_last, own_backs, own_batch, own_fronts, puts_first, AllErasedApart}

@@ -13,7 +13,7 @@ use Rattle.plevent.specs.declared.update.Living.{Living}
 use Rattle.plevent.specs.declared.update.Update.{Update}
 use Rattle.plevent.specs.declared.update.Update.TheVariants.{First, Last, Erase, EraseOwn, Declare}
 use Rattle.plevent.specs.Alive.{stamped, named, same_name, is_of, lives_as, change_if, without, change, changed, living, names_of}
-use Rattle.plstore.specs.Kept.{head}
+use Rattle.plrecords.specs.Kept.{head}
 use Rattle.plstore.specs.Like.{fits, first_like, past, rest, next_like_of}
 use Rattle.pltx.specs.declared.own.OwnCursor.{OwnCursor}
 use Rattle.pltx.specs.Overlays.{draft_cursor, drafts, drafted}

@@ -4,8 +4,8 @@ use Rattle.std.specs.HashMap.{get}
 use Rattle.plevent.specs.declared.update.Update.{Update}
 use Rattle.plevent.specs.declared.update.Update.TheVariants.{First, Last, Erase, EraseOwn, Declare}
 use Rattle.plevent.specs.Alive.{Stamped, named, change_if}
-use Rattle.plstore.specs.Kept.{keep, nothing}
-use Rattle.plstore.specs.declared.record.Cursor.{Cursor}
+use Rattle.plrecords.specs.Kept.{keep, nothing}
+use Rattle.plrecords.specs.declared.record.Cursor.{Cursor}
 use Rattle.pltx.specs.declared.overlay.Overlay.{Overlay}
 use Rattle.pltx.specs.declared.own.OwnCursor.{OwnCursor}
 use Rattle.pltx.specs.declared.target.Target.{Target}

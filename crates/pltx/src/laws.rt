@@ -3,7 +3,7 @@ ghost use Rattle.std.specs.Prelude.{◌≡◌, ℕ, List, ◌++◌, take};
 ghost use Rattle.plterm.specs.declared.indicator.Indicator.{Indicator};
 ghost use Rattle.plevent.specs.declared.update.Update.{Update};
 ghost use Rattle.plevent.specs.Alive.{Stamped, before, living, view};
-ghost use Rattle.plstore.specs.Rising.{AllUnder};
+ghost use Rattle.plrecords.specs.Rising.{AllUnder};
 ghost use Rattle.pltx.specs.Walks.{not_erased, own_backs, own_batch, own_fronts};
 
 /// The clauses alive of a procedure are the own ones that were put in front, those of the journal that no own update erases,

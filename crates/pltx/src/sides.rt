@@ -4,7 +4,7 @@ ghost use Rattle.std.specs.List.{slice_get};
 ghost use Rattle.std.specs.Option.{option_map};
 ghost use Rattle.plevent.specs.Alive.{named};
 ghost use Rattle.plstore.specs.Like.{first_like, next_like_of};
-ghost use Rattle.plstore.specs.declared.record.Cursor.TheVariants.{After};
+ghost use Rattle.plrecords.specs.declared.record.Cursor.TheVariants.{After};
 ghost use Rattle.pltx.specs.Overlays.{IsTracked};
 ghost use Rattle.pltx.specs.Walks.{cursor_at, is_first, own_backs, own_batch, own_fronts, puts_first, AllErasedApart};
 

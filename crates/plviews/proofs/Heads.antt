@@ -6,8 +6,8 @@ use Rattle.plclause.specs.Clause.{Clause}
 use Rattle.plevent.specs.declared.update.ClauseName.{ClauseName}
 use Rattle.plevent.specs.declared.update.Living.{Living}
 use Rattle.plevent.specs.Alive.{same_name, change_if, lives_as, names_of}
-use Rattle.plstore.specs.declared.record.Cursor.{Cursor}
-use Rattle.plstore.specs.Kept.{head}
+use Rattle.plrecords.specs.declared.record.Cursor.{Cursor}
+use Rattle.plrecords.specs.Kept.{head}
 use Rattle.plstore.specs.Like.{past, rest}
 use Rattle.plstore.specs.Looking.{Apart, NoneNamed}
 use Rattle.plviews.proofs.Seen.{name-self}

@@ -11,7 +11,7 @@ use Rattle.plevent.specs.declared.update.Update.{Update}
 use Rattle.plevent.specs.declared.update.Update.TheVariants.{First, Last, Erase, EraseOwn, Declare}
 use Rattle.plevent.specs.Alive.{Stamped, stamped, named, same_name, change_if, lives, is_alive, clause_in, clause_named, made_in, names, or_else, exists}
 use Rattle.plstore.specs.Looking.{clause_alive}
-use Rattle.plstore.specs.Rising.{AllUnder}
+use Rattle.plrecords.specs.Rising.{AllUnder}
 use Rattle.plstore.proofs.Whole.{or-assoc-3, or-nothing}
 use Rattle.pltx.specs.declared.target.Target.TheVariants.{Committed}
 use Rattle.pltx.specs.Own.{erased_in}

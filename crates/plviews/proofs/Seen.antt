@@ -8,10 +8,10 @@ use Rattle.plevent.specs.declared.update.ClauseName.{ClauseName}
 use Rattle.plevent.specs.declared.update.Living.{Living}
 use Rattle.plevent.specs.declared.update.Update.{Update}
 use Rattle.plevent.specs.Alive.{Stamped, stamped, named, same_name, change_if, living}
-use Rattle.plstore.specs.declared.record.Cursor.{Cursor}
+use Rattle.plrecords.specs.declared.record.Cursor.{Cursor}
 use Rattle.plstore.specs.Like.{past, rest}
 use Rattle.plstore.specs.Looking.{clause_alive, Apart, NoneNamed, Tells}
-use Rattle.plstore.specs.Rising.{less, AllAfter, AllUnder, Ordered}
+use Rattle.plrecords.specs.Rising.{less, AllAfter, AllUnder, Ordered}
 use Rattle.plstore.proofs.Names.{apart-alive, tells-alive}
 use Rattle.pltx.specs.Walks.{cursor_at, not_erased, own_backs, own_fronts}
 use Rattle.pltx.proofs.Layers.{living-layers}

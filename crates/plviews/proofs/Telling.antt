@@ -7,9 +7,9 @@ use Rattle.plevent.specs.declared.key.Key.{Key}
 use Rattle.plevent.specs.declared.update.ClauseName.{ClauseName}
 use Rattle.plevent.specs.declared.update.Living.{Living}
 use Rattle.plevent.specs.Alive.{Stamped, living, named, stamped}
-use Rattle.plstore.specs.declared.record.Cursor.{Cursor}
+use Rattle.plrecords.specs.declared.record.Cursor.{Cursor}
 use Rattle.plstore.specs.Like.{fits, next_like_of, past, rest}
-use Rattle.plstore.specs.Rising.{AllUnder, Ordered}
+use Rattle.plrecords.specs.Rising.{AllUnder, Ordered}
 use Rattle.plstore.proofs.Names.{apart-alive}
 use Rattle.pltx.specs.declared.own.OwnCursor.{OwnCursor}
 use Rattle.pltx.specs.declared.target.Target.TheVariants.{Committed}

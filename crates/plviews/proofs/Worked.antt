@@ -7,7 +7,7 @@ use Rattle.plevent.specs.declared.key.Key.TheVariants.{Int}
 use Rattle.plevent.specs.declared.update.Update.{Update}
 use Rattle.plevent.specs.declared.update.Update.TheVariants.{First, Last, Erase, EraseOwn}
 use Rattle.plevent.specs.Alive.{Stamped, exists, is_alive, living, named, names_of, stamped}
-use Rattle.plstore.specs.declared.record.Cursor.{Cursor}
+use Rattle.plrecords.specs.declared.record.Cursor.{Cursor}
 use Rattle.plstore.specs.Looking.{clause_alive}
 use Rattle.pltx.specs.declared.own.OwnCursor.{OwnCursor}
 use Rattle.plviews.specs.declared.lookup.Reach.TheVariants.{Front, Base, Back}

@@ -7,7 +7,7 @@ use Rattle.plevent.specs.declared.update.ClauseName.{ClauseName}
 use Rattle.plevent.specs.declared.update.Living.{Living}
 use Rattle.plevent.specs.declared.update.Update.{Update}
 use Rattle.plevent.specs.Alive.{Stamped, living, lives_as}
-use Rattle.plstore.specs.declared.record.Cursor.{Cursor}
+use Rattle.plrecords.specs.declared.record.Cursor.{Cursor}
 use Rattle.plstore.specs.Like.{fits, next_like_of, rest}
 use Rattle.plstore.specs.Looking.{clause_alive}
 use Rattle.pltx.specs.declared.own.OwnCursor.{OwnCursor}

@@ -5,7 +5,7 @@ use Rattle.plevent.specs.declared.update.ClauseName.{ClauseName}
 use Rattle.plevent.specs.declared.update.Update.{Update}
 use Rattle.plevent.specs.Alive.{Stamped, stamped}
 use Rattle.plstore.specs.Looking.{Views}
-use Rattle.plstore.specs.Rising.{AllUnder, Ordered}
+use Rattle.plrecords.specs.Rising.{AllUnder, Ordered}
 use Rattle.pltx.specs.Own.{erased_in}
 use Rattle.pltx.specs.Walks.{AllErasedApart}
 use Rattle.pltx.specs.declared.target.Target.TheVariants.{Committed}

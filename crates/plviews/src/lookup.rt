@@ -3,7 +3,7 @@ ghost use Rattle.std.specs.Prelude.{◌≡◌, ◌<◌, ℕ, List, take, IfSome,
 ghost use Rattle.std.specs.Option.{option_map};
 ghost use Rattle.plevent.specs.Alive.{Stamped, living, named};
 ghost use Rattle.plevent.specs.declared.update.Update.{Update};
-ghost use Rattle.plstore.specs.declared.record.Cursor.{Cursor as StoreCursor};
+ghost use Rattle.plrecords.specs.declared.record.Cursor.{Cursor as StoreCursor};
 ghost use Rattle.plstore.specs.Like.{next_like_of};
 ghost use Rattle.pltx.specs.Walks.{cursor_at, own_backs, own_batch, own_fronts, AllErasedApart};
 ghost use Rattle.plviews.specs.declared.lookup.Lookup.{Lookup as Looked};
@@ -14,7 +14,7 @@ ghost use Rattle.plviews.specs.Lookups.{IsFurther, Leads, LeadsFound, SaysAt, Sa
 
 use crate::view::View;
 use plevent::{ClauseName, Key};
-use plstore::Cursor;
+use plrecords::Cursor;
 use plterm::indicator::Indicator;
 use pltx::{Own, OwnCursor};
 

@@ -3,7 +3,8 @@ ghost use Rattle.std.specs.Prelude.{◌≡◌, ◌+◌, ◌<◌, ◌^◌, OnOk};
 ghost use Rattle.plstore.specs.Cut.{cut};
 
 use crate::made::{Change, indicator, key, name, update};
-use plstore::{Cursor, Draft};
+use plrecords::Cursor;
+use plstore::Draft;
 use plterm::error::TermError;
 use std::alloc::{AllocError, Global};
 use std::test::Fail;

@@ -1,7 +1,7 @@
 //! What a view tells without a walk (plviews).
 use crate::made::{indicator, name};
 use crate::owns::eight;
-use plstore::Cursor;
+use plrecords::Cursor;
 use pltx::{Own, OwnCursor};
 use plviews::{Reach, Step, View};
 use std::alloc::{AllocError, Global};

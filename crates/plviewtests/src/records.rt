@@ -1,6 +1,6 @@
 //! Clauses that are kept with the places of their batches (plstore).
 use crate::made::{fact, name};
-use plstore::Record;
+use plrecords::Record;
 use plterm::error::TermError;
 use plterm::indicator::Indicator;
 use plterm::name::Name;

@@ -4,7 +4,7 @@ use Rattle.std.proofs.Common.{arith}
 use Rattle.plevent.specs.declared.update.Update.{Update}
 use Rattle.plevent.specs.declared.update.ClauseName.{ClauseName}
 use Rattle.plevent.specs.Alive.{Stamped, stamped, named}
-use Rattle.plstore.specs.Rising.{AllAfter, AllUnder, Ordered}
+use Rattle.plrecords.specs.Rising.{AllAfter, AllUnder, Ordered}
 use Rattle.plstore.proofs.Search.{less-place, less-number}
 
 after-place : (x : ClauseName) (b k : ℕ) (vs : List Update) → x.place < b → AllAfter x (stamped b k vs)

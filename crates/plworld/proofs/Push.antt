@@ -12,8 +12,8 @@ use Rattle.std.proofs.lemmas.List.Elements.{filter-append}
 use Rattle.std.proofs.lemmas.Bool.Decides.{nat_tests}
 use Rattle.plevent.specs.Alive.{Stamped, stamped, named, before, living, exists, is_alive}
 use Rattle.plevent.specs.Reading.{Reading, read, reading, stand, updates_of, blank}
-use Rattle.plstore.specs.Kept.{Kept, keep, nothing, walk, is_there, here}
-use Rattle.plstore.specs.Rising.{AllBelowPlace, Rises, AllUnder, Ordered}
+use Rattle.plrecords.specs.Kept.{Kept, keep, nothing, walk, is_there, here}
+use Rattle.plrecords.specs.Rising.{AllBelowPlace, Rises, AllUnder, Ordered}
 use Rattle.plstore.proofs.Search.{place-keep}
 use Rattle.plstore.proofs.Whole.{walk-is, there-is, here-is}
 use Rattle.plstore.specs.declared.query.Query.{Query}

@@ -11,8 +11,8 @@ use Rattle.plevent.specs.contracts.act.Entry as entry_row
 use Rattle.plevent.specs.Alive.{change_if}
 use Rattle.plevent.specs.Reading.{reading}
 use Rattle.plevent.specs.Rows.{adds, reply_to}
-use Rattle.plstore.specs.Kept.{Kept, keep, nothing}
-use Rattle.plstore.specs.Rising.{AllBelowPlace}
+use Rattle.plrecords.specs.Kept.{Kept, keep, nothing}
+use Rattle.plrecords.specs.Rising.{AllBelowPlace}
 
 -- what a world is seen as: its journal, and whether it is stopped
 pub record Shared : Type 0 where

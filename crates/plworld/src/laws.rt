@@ -5,8 +5,8 @@ ghost use Rattle.plevent.specs.declared.act.Entry.{Entry};
 ghost use Rattle.plevent.specs.declared.update.ClauseName.{ClauseName};
 ghost use Rattle.plevent.specs.Alive.{before, living, exists, is_alive};
 ghost use Rattle.plevent.specs.Reading.{reading};
-ghost use Rattle.plstore.specs.Kept.{keep, nothing, walk, is_there, here};
-ghost use Rattle.plstore.specs.Rising.{Rises, AllUnder, Ordered};
+ghost use Rattle.plrecords.specs.Kept.{keep, nothing, walk, is_there, here};
+ghost use Rattle.plrecords.specs.Rising.{Rises, AllUnder, Ordered};
 
 /// The updates of a journal stand at rising places, which are below its length.
 pub fn places_law()

@@ -3,9 +3,9 @@ ghost use Rattle.std.specs.Prelude.{◌≡◌, ◌<◌, ◌^◌, ◌++◌, ◌�
 ghost use Rattle.plevent.specs.Alive.{before, stamped};
 ghost use Rattle.plevent.specs.Reading.{stand, updates_of, reading};
 ghost use Rattle.plevent.specs.Rows.{is_over};
-ghost use Rattle.plstore.specs.Kept.{keep};
+ghost use Rattle.plrecords.specs.Kept.{keep};
 ghost use Rattle.plstore.specs.Looking.{found};
-ghost use Rattle.plstore.specs.Rising.{AllBelowPlace};
+ghost use Rattle.plrecords.specs.Rising.{AllBelowPlace};
 ghost use Rattle.plworld.specs.Worlds.{opening, reply_in, adds_in};
 
 use crate::rows::serve;

@@ -2,7 +2,7 @@ use Rattle.std.proofs.Common.{◌+◌, ◌++◌, [], ◌∷◌, List, ap, subst,
 use Rattle.plevent.specs.declared.update.Update.{Update}
 use Rattle.plevent.specs.declared.update.Update.TheVariants.{Erase, Last}
 use Rattle.plevent.specs.Alive.{named}
-use Rattle.plstore.specs.Rising.{AllBelowPlace}
+use Rattle.plrecords.specs.Rising.{AllBelowPlace}
 use Rattle.plruntests.proofs.Renewing.{one-more}
 use Rattle.plruntests.proofs.stores.renew.Goals as goal
 

@@ -1,5 +1,5 @@
 use Rattle.std.proofs.Common.{◌+◌, ◌*◌}
-use Rattle.plstore.specs.Rising.{AllBelowPlace}
+use Rattle.plrecords.specs.Rising.{AllBelowPlace}
 use Rattle.plruntests.proofs.stores.renewed.Given as goal
 
 abbrev pub invariant-loop-i : goal.invariant-loop-i

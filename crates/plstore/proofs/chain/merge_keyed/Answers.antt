@@ -1,6 +1,6 @@
 use Rattle.std.proofs.Common.{◌∙◌, refl, ap}
 use Rattle.plevent.specs.declared.key.Key.TheVariants.{Any}
-use Rattle.plstore.specs.Slots.{slot_behind}
+use Rattle.plrecords.specs.Slots.{slot_behind}
 use Rattle.plstore.proofs.Slotted.{keyed-cover, slots-cover}
 use Rattle.plstore.proofs.chain.merge_keyed.Goals as goal
 

@@ -1,6 +1,6 @@
 use Rattle.std.proofs.Common.{◌≡◌, ◌<◌, ◌≤◌, ◌-◌, ℕ, true, length, get_or}
-use Rattle.plstore.specs.declared.record.Record.{Record}
-use Rattle.plstore.specs.Rising.{less}
+use Rattle.plrecords.specs.declared.record.Record.{Record}
+use Rattle.plrecords.specs.Rising.{less}
 use Rattle.plstore.proofs.named.find_from.Given as goal
 
 abbrev pub invariant-loop-low : goal.invariant-loop-low

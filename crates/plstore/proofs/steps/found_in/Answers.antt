@@ -1,5 +1,5 @@
 use Rattle.std.proofs.Common.{◌∙◌, sym, ap}
-use Rattle.plstore.specs.Links.{first_end}
+use Rattle.plrecords.specs.Links.{first_end}
 use Rattle.plstore.proofs.Merging.{none-found}
 use Rattle.plstore.proofs.steps.found_in.Goals as goal
 

@@ -1,5 +1,5 @@
 use Rattle.std.proofs.Common.{subst}
-use Rattle.plstore.specs.Rising.{NoneIs}
+use Rattle.plrecords.specs.Rising.{NoneIs}
 use Rattle.plstore.proofs.Visible.{none-named}
 use Rattle.plstore.proofs.steps.sought_after.Goals as goal
 

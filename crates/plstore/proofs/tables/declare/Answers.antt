@@ -2,10 +2,10 @@ use Rattle.std.proofs.Common.{◌∙◌, refl, sym, ap}
 use Rattle.plterm.specs.Indicators.{same_indicator}
 use Rattle.plevent.specs.declared.update.Update.TheVariants.{Declare}
 use Rattle.plevent.specs.Alive.{is_of, named}
-use Rattle.plstore.specs.declared.ends.Ends.{Ends}
-use Rattle.plstore.specs.Links.{earlier, ends_in}
+use Rattle.plrecords.specs.declared.ends.Ends.{Ends}
+use Rattle.plrecords.specs.Links.{earlier, ends_in}
 use Rattle.plstore.specs.Tables.{kept_in}
-use Rattle.plstore.proofs.Backward.{at-set, earlier-some}
+use Rattle.plrecords.proofs.Backward.{at-set, earlier-some}
 use Rattle.plstore.proofs.Classes.{chain-noted, links-alike}
 use Rattle.plstore.proofs.Same.{indicator-self, same-is}
 use Rattle.plstore.proofs.Since.{since-kept}

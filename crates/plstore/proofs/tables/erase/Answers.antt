@@ -2,10 +2,10 @@ use Rattle.std.proofs.Common.{◌∙◌, refl, sym, ap, subst, arith, get_or}
 use Rattle.std.specs.Prelude.{nat_eq}
 use Rattle.plterm.specs.Indicators.{same_indicator}
 use Rattle.plevent.specs.Alive.{is_of}
-use Rattle.plstore.specs.declared.record.Record.{Record}
-use Rattle.plstore.specs.Links.{ends_in}
-use Rattle.plstore.specs.Runs.{IsGone}
-use Rattle.plstore.specs.Slots.{in_slot}
+use Rattle.plrecords.specs.declared.record.Record.{Record}
+use Rattle.plrecords.specs.Links.{ends_in}
+use Rattle.plrecords.specs.Runs.{IsGone}
+use Rattle.plrecords.specs.Slots.{in_slot}
 use Rattle.plstore.specs.Chains.{IsChain}
 use Rattle.plstore.specs.Tables.{AreKeyed}
 use Rattle.plstore.proofs.Classes.{chain-erased, chain-kept, links-alike}

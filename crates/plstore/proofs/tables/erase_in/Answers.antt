@@ -1,6 +1,6 @@
 use Rattle.std.proofs.Common.{sym}
-use Rattle.plstore.specs.Kept.{is_named, erase_at}
-use Rattle.plstore.proofs.Backward.{record-was}
+use Rattle.plrecords.specs.Kept.{is_named, erase_at}
+use Rattle.plrecords.proofs.Backward.{record-was}
 use Rattle.plstore.proofs.Search.{changed-none, erased-one}
 use Rattle.plstore.proofs.tables.erase_in.Goals as goal
 

@@ -1,8 +1,8 @@
 use Rattle.std.proofs.Common.{◌≡◌, ◌+◌, suc, [], ◌∷◌, ◌++◌, length, fold, sym, ◌∙◌, ap, subst, arith, append_assoc, length-append}
 use Rattle.plevent.specs.Alive.{stamped, named}
-use Rattle.plstore.specs.Kept.{keep}
+use Rattle.plrecords.specs.Kept.{keep}
 use Rattle.plstore.specs.Plan.{update_of, updates_of, AllPlanned}
-use Rattle.plstore.specs.Rising.{InOrder}
+use Rattle.plrecords.specs.Rising.{InOrder}
 use Rattle.plstore.specs.Room.{HasRoom}
 use Rattle.plstore.specs.Tables.{kept_in}
 use Rattle.plstore.proofs.Plans.{updates-append, updates-length}

@@ -1,9 +1,9 @@
 use Rattle.std.proofs.Common.{◌≡◌, ◌++◌, List, length, fold}
 use Rattle.plevent.specs.Alive.{stamped, named}
 use Rattle.plstore.specs.declared.plan.Planned.{Planned}
-use Rattle.plstore.specs.Kept.{keep}
+use Rattle.plrecords.specs.Kept.{keep}
 use Rattle.plstore.specs.Plan.{updates_of, AllPlanned}
-use Rattle.plstore.specs.Rising.{InOrder}
+use Rattle.plrecords.specs.Rising.{InOrder}
 use Rattle.plstore.specs.Room.{HasRoom}
 use Rattle.plstore.specs.Tables.{kept_in, Chained}
 use Rattle.plstore.specs.declared.tables.Tables.{Tables}

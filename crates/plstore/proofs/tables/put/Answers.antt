@@ -4,15 +4,15 @@ use Rattle.plterm.specs.Indicators.{same_indicator}
 use Rattle.plclause.specs.Clause.{Clause}
 use Rattle.plclause.specs.Indicators.{indicator}
 use Rattle.plevent.specs.Alive.{is_of}
-use Rattle.plstore.specs.Links.{ends_in}
+use Rattle.plrecords.specs.Links.{ends_in}
 use Rattle.plstore.specs.Plan.{put_update}
-use Rattle.plstore.specs.Slots.{in_slot, slot_of}
+use Rattle.plrecords.specs.Slots.{in_slot, slot_of}
 use Rattle.plstore.specs.Tables.{kept_in, AreKeyed}
-use Rattle.plstore.specs.Kept.{made}
-use Rattle.plstore.specs.Links.{ends_after, links_after}
-use Rattle.plstore.proofs.Backward.{at-set, earlier-some, newest-end}
+use Rattle.plrecords.specs.Kept.{made}
+use Rattle.plrecords.specs.Links.{ends_after, links_after}
+use Rattle.plrecords.proofs.Backward.{at-set, earlier-some, newest-end}
 use Rattle.plstore.proofs.Classes.{chains-put}
-use Rattle.plstore.proofs.Index.{newest-within}
+use Rattle.plrecords.proofs.Index.{newest-within}
 use Rattle.plstore.proofs.Same.{indicator-self, nat-same, nat-self, same-is}
 use Rattle.plstore.proofs.Since.{since-grown, since-kept, put-kept, put-names}
 use Rattle.plstore.proofs.Slotted.{keyed-put, own-key, slot-is}

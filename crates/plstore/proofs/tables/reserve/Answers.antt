@@ -1,5 +1,5 @@
 use Rattle.std.proofs.Common.{refl, ap, unwrap_or}
-use Rattle.plstore.specs.Links.{no_ends}
+use Rattle.plrecords.specs.Links.{no_ends}
 use Rattle.plstore.proofs.Classes.{chained-same, links-alike}
 use Rattle.plstore.proofs.tables.reserve.Goals as goal
 

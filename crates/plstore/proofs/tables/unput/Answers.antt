@@ -1,10 +1,10 @@
 use Rattle.std.proofs.Common.{◌≡◌, ◌+◌, ◌-◌, ◌<◌, ◌∙◌, sym, ap, subst, arith, length, get_or, Some, unwrap_or}
 use Rattle.std.proofs.lemmas.List.{get_or_at}
-use Rattle.plstore.specs.declared.record.Record.{Record}
-use Rattle.plstore.specs.Links.{no_ends}
-use Rattle.plstore.specs.Trail.{IsLonger}
-use Rattle.plstore.proofs.Backward.{take-back}
-use Rattle.plstore.proofs.Bits.{length-push}
+use Rattle.plrecords.specs.declared.record.Record.{Record}
+use Rattle.plrecords.specs.Links.{no_ends}
+use Rattle.plrecords.specs.Undone.{IsLonger}
+use Rattle.plrecords.proofs.Backward.{take-back}
+use Rattle.plrecords.proofs.Bits.{length-push}
 use Rattle.plstore.proofs.tables.unput.Goals as goal
 
 pub restore_ends-requires : goal.restore_ends-requires

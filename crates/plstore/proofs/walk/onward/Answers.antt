@@ -1,7 +1,7 @@
 use Rattle.std.proofs.Common.{◌∙◌, ◌<◌, sym, subst, arith, length}
-use Rattle.plstore.specs.Links.{Marked}
+use Rattle.plrecords.specs.Links.{Marked}
 use Rattle.plstore.specs.Chains.{in_chain}
-use Rattle.plstore.specs.Parts.{left, marks}
+use Rattle.plrecords.specs.Parts.{left, marks}
 use Rattle.plstore.proofs.Leading.{mark-in, over-within, step-order, step-stands}
 use Rattle.plstore.proofs.Merging.{before-part, chain-at}
 use Rattle.plstore.proofs.walk.onward.Goals as goal

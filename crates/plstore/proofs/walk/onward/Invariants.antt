@@ -1,7 +1,7 @@
 use Rattle.std.proofs.Common.{length}
 use Rattle.plstore.specs.Chains.{in_chain}
 use Rattle.plstore.specs.Merged.{MayStand}
-use Rattle.plstore.specs.Parts.{extent, left}
+use Rattle.plrecords.specs.Parts.{extent, left}
 use Rattle.plstore.proofs.walk.onward.Given as goal
 
 abbrev pub invariant-loop-at : goal.invariant-loop-at

@@ -1,7 +1,7 @@
 use Rattle.std.proofs.Common.{length}
 use Rattle.plstore.specs.Chains.{in_chain}
 use Rattle.plstore.specs.Merged.{found}
-use Rattle.plstore.specs.Parts.{first_head, left}
+use Rattle.plrecords.specs.Parts.{first_head, left}
 use Rattle.plstore.proofs.Merging.{Seek}
 use Rattle.plstore.proofs.walk.seek.Given as goal
 

@@ -1,7 +1,7 @@
 use Rattle.std.proofs.Common.{◌≡◌, ◌∙◌, refl, sym, subst, ap, arith, get_or}
 use Rattle.plevent.specs.Alive.{is_of}
-use Rattle.plstore.specs.Links.{Marked}
-use Rattle.plstore.specs.Parts.{marks}
+use Rattle.plrecords.specs.Links.{Marked}
+use Rattle.plrecords.specs.Parts.{marks}
 use Rattle.plstore.specs.declared.chain.Chain.TheVariants.{Procedure}
 use Rattle.plstore.proofs.Merging.{any-suits, chain-at, end-within, first-one, first-within, moved-one, not-some, seek-found, seek-more, seek-over, seek-smaller}
 use Rattle.plstore.proofs.Slotted.{procedure-covers}

@@ -1,7 +1,7 @@
 use Rattle.std.proofs.Common.{length}
 use Rattle.plevent.specs.Alive.{is_of}
 use Rattle.plstore.specs.Merged.{found}
-use Rattle.plstore.specs.Parts.{left}
+use Rattle.plrecords.specs.Parts.{left}
 use Rattle.plstore.proofs.Merging.{Seek}
 use Rattle.plstore.proofs.walk.seek_any.Given as goal
 

@@ -1,9 +1,9 @@
 use Rattle.std.proofs.Common.{◌∙◌, sym, ap, subst, arith, length, ℕ, Option}
-use Rattle.plstore.specs.declared.ends.Ends.{Ends}
-use Rattle.plstore.specs.Links.{first_end}
+use Rattle.plrecords.specs.declared.ends.Ends.{Ends}
+use Rattle.plrecords.specs.Links.{first_end}
 use Rattle.plstore.specs.Chains.{in_chain}
 use Rattle.plstore.specs.Merged.{MayStand}
-use Rattle.plstore.specs.Parts.{extent, reaches}
+use Rattle.plrecords.specs.Parts.{extent, reaches}
 use Rattle.plstore.proofs.Leading.{either, stand-first}
 use Rattle.plstore.proofs.Merging.{chain-is, stand-over}
 use Rattle.plstore.proofs.walk.start.Goals as goal

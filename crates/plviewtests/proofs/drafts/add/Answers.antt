@@ -1,7 +1,7 @@
 use Rattle.std.proofs.Common.{◌≡◌, ◌+◌, subst, sym, arith}
 use Rattle.plevent.specs.Alive.{Stamped, named}
 use Rattle.plstore.specs.Cut.{cut}
-use Rattle.plstore.specs.Kept.{Kept}
+use Rattle.plrecords.specs.Kept.{Kept}
 use Rattle.plstore.proofs.Cutting.{cut-below, cut-wider}
 use Rattle.plviewtests.proofs.drafts.add.Goals as goal
 

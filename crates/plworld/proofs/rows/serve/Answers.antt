@@ -7,7 +7,7 @@ use Rattle.plevent.specs.declared.standing.Standing.{Standing}
 use Rattle.plevent.specs.Alive.{change_if}
 use Rattle.plevent.specs.Reading.{reading}
 use Rattle.plevent.specs.Rows.{is_halted, is_leave, served, served_while}
-use Rattle.plstore.specs.Kept.{Kept}
+use Rattle.plrecords.specs.Kept.{Kept}
 use Rattle.plworld.specs.Worlds.{IsWorld}
 use Rattle.plworld.proofs.rows.serve.Goals as goal
 

@@ -1,6 +1,6 @@
 use Rattle.std.proofs.Common.{refl, sym, ap, inl, subst}
 use Rattle.plcells.specs.Store.{value}
-use Rattle.plstore.specs.declared.record.Cursor.TheVariants.{Start}
+use Rattle.plrecords.specs.declared.record.Cursor.TheVariants.{Start}
 use Rattle.pltx.specs.declared.own.OwnCursor.TheVariants.{Start as OwnStart}
 use Rattle.plviews.specs.declared.lookup.Step.TheVariants as steps
 use Rattle.plviews.specs.declared.lookup.Reach.TheVariants as reaches

@@ -1,5 +1,5 @@
 use Rattle.std.proofs.Common.{rules, refl, sym, ap, ◌∙◌, inl, subst}
-use Rattle.plstore.specs.declared.record.Cursor.TheVariants.{Start}
+use Rattle.plrecords.specs.declared.record.Cursor.TheVariants.{Start}
 use Rattle.plviews.specs.declared.lookup.Reach.TheVariants as reaches
 use Rattle.plstack.specs.declared.frame.Spot.TheVariants as spots
 use Rattle.plmachine.specs.declared.machine.Machine.{Machine as Reached}

@@ -1,9 +1,9 @@
 use Rattle.std.proofs.Common.{sym, ap, subst}
 use Rattle.plevent.specs.declared.update.Update.TheVariants.{Erase}
 use Rattle.plevent.specs.Alive.{named}
-use Rattle.plstore.specs.Kept.{Kept}
+use Rattle.plrecords.specs.Kept.{Kept}
 use Rattle.plstore.specs.Plan.{update_of}
-use Rattle.plstore.specs.Rising.{AllBelowPlace, InOrder, IsRising}
+use Rattle.plrecords.specs.Rising.{AllBelowPlace, InOrder, IsRising}
 use Rattle.plstore.proofs.Search.{order-keep, order-start}
 use Rattle.plstore.proofs.store.Store.make_one.Goals as goal
 

@@ -1,5 +1,5 @@
 use Rattle.std.proofs.Common.{◌∙◌}
-use Rattle.plstore.specs.Kept.{walk}
+use Rattle.plrecords.specs.Kept.{walk}
 use Rattle.plstore.proofs.Visible.{next-any}
 use Rattle.plstore.proofs.store.Store.next_visible.Goals as goal
 

@@ -1,6 +1,6 @@
 use Rattle.std.proofs.Common.{◌∙◌, ap, subst}
-use Rattle.plstore.specs.Kept.{seen}
-use Rattle.plstore.specs.Rising.{NoneIs, OneIs}
+use Rattle.plrecords.specs.Kept.{seen}
+use Rattle.plrecords.specs.Rising.{NoneIs, OneIs}
 use Rattle.plstore.proofs.Look.{here-none, here-one}
 use Rattle.plstore.proofs.tables.Tables.alive.Goals as goal
 

@@ -1,7 +1,7 @@
 use Rattle.std.proofs.Common.{◌∙◌, sym, ap, subst, Some}
 use Rattle.std.specs.Option.{option_map}
-use Rattle.plstore.specs.declared.record.Record.{Record}
-use Rattle.plstore.specs.Rising.{NoneIs, OneIs}
+use Rattle.plrecords.specs.declared.record.Record.{Record}
+use Rattle.plrecords.specs.Rising.{NoneIs, OneIs}
 use Rattle.plstore.proofs.Look.{find-none, find-one}
 use Rattle.plstore.proofs.tables.Tables.clause.Goals as goal
 

@@ -1,9 +1,9 @@
 use Rattle.std.proofs.Common.{◌∙◌, sym, ap, ap₂, subst, Some, None}
 use Rattle.std.specs.Option.{option_map}
 use Rattle.plevent.specs.Alive.{change_if}
-use Rattle.plstore.specs.declared.record.Record.{Record}
-use Rattle.plstore.specs.Kept.{clause_of, seen}
-use Rattle.plstore.specs.Rising.{NoneIs, OneIs}
+use Rattle.plrecords.specs.declared.record.Record.{Record}
+use Rattle.plrecords.specs.Kept.{clause_of, seen}
+use Rattle.plrecords.specs.Rising.{NoneIs, OneIs}
 use Rattle.plstore.specs.Tables.{kept_in}
 use Rattle.plstore.proofs.Look.{find-one, here-none, here-one}
 use Rattle.plstore.proofs.tables.Tables.clause_seen.Goals as goal

@@ -4,11 +4,11 @@ use Rattle.plterm.specs.declared.indicator.Indicator.{Indicator}
 use Rattle.plterm.specs.Indicators.{same_indicator}
 use Rattle.plevent.specs.Alive.{is_of}
 use Rattle.plstore.specs.Chains.{IsChain}
-use Rattle.plstore.specs.declared.ends.Ends.{Ends}
-use Rattle.plstore.specs.Kept.{is_there}
-use Rattle.plstore.specs.Links.{ends_in, no_ends, since_below}
-use Rattle.plstore.specs.Rising.{IsRising}
-use Rattle.plstore.specs.Slots.{in_slot}
+use Rattle.plrecords.specs.declared.ends.Ends.{Ends}
+use Rattle.plrecords.specs.Kept.{is_there}
+use Rattle.plrecords.specs.Links.{ends_in, no_ends, since_below}
+use Rattle.plrecords.specs.Rising.{IsRising}
+use Rattle.plrecords.specs.Slots.{in_slot}
 use Rattle.plstore.specs.Tables.{AreKeyed}
 use Rattle.plstore.proofs.Classes.{chain-empty}
 use Rattle.plstore.proofs.Slotted.{keyed-none}

@@ -1,7 +1,7 @@
 use Rattle.std.proofs.Common.{◌≡◌, ◌∙◌, sym, ap, fold, ◌++◌, ◌∷◌, [], Some, true, false}
 use Rattle.std.specs.HashMap.{get}
 use Rattle.plevent.specs.Alive.{change_if}
-use Rattle.plstore.specs.Kept.{keep}
+use Rattle.plrecords.specs.Kept.{keep}
 use Rattle.pltx.specs.Own.{is_target, same_target}
 use Rattle.pltx.proofs.Drafting.{draft-above, drafts-addition, tracked-more}
 use Rattle.pltx.proofs.Fronts.{more-kept, one-more}

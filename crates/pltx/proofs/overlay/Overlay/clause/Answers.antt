@@ -1,7 +1,7 @@
 use Rattle.std.proofs.Common.{◌∙◌, sym, ap, None}
 use Rattle.plevent.specs.Alive.{change_if, named}
 use Rattle.plevent.specs.declared.update.ClauseName.{ClauseName}
-use Rattle.plstore.specs.Kept.{clause_of, here}
+use Rattle.plrecords.specs.Kept.{clause_of, here}
 use Rattle.pltx.proofs.Knowing.{own-clause}
 use Rattle.pltx.proofs.overlay.Overlay.clause.Goals as goal
 

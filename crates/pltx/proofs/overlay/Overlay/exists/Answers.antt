@@ -1,6 +1,6 @@
 use Rattle.std.proofs.Common.{◌∙◌, ap, take}
 use Rattle.plevent.specs.Alive.{exists}
-use Rattle.plstore.specs.Kept.{is_there}
+use Rattle.plrecords.specs.Kept.{is_there}
 use Rattle.plstore.proofs.Whole.{there-is}
 use Rattle.pltx.specs.Overlays.{drafted}
 use Rattle.pltx.proofs.Drafting.{drafted-exists, first-drafted}

@@ -2,7 +2,7 @@ use Rattle.std.proofs.Common.{◌∙◌, sym, ap, ap₂, take}
 use Rattle.std.specs.Option.{option_map}
 use Rattle.plevent.specs.Alive.{living, named}
 use Rattle.plevent.specs.declared.update.ClauseName.{ClauseName}
-use Rattle.plstore.specs.Kept.{Kept, walk}
+use Rattle.plrecords.specs.Kept.{Kept, walk}
 use Rattle.plstore.specs.Like.{next_like_of}
 use Rattle.plstore.proofs.Whole.{walk-is}
 use Rattle.pltx.specs.Overlays.{drafted}
