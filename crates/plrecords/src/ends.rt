@@ -121,7 +121,7 @@ pub fn earlier(since: Option<u64>, place: u64) -> Option<u64>
 }
 
 /// The ends after one more record.
-pub fn grown(ends: Ends, front: bool, number: u32, place: u64) -> Ends
+pub(crate) fn grown(ends: Ends, front: bool, number: u32, place: u64) -> Ends
     ensures { result ≡ ends_after front number place ends }
 {
     let mut made = ends;
@@ -136,7 +136,7 @@ pub fn grown(ends: Ends, front: bool, number: u32, place: u64) -> Ends
 }
 
 /// Links one more record, for which there is room, with those of its side.
-pub fn link(next: &mut Vec<Option<u32>>, front: bool, number: u32, ends: Ends)
+pub(crate) fn link(next: &mut Vec<Option<u32>>, front: bool, number: u32, ends: Ends)
     requires room { vec_len next.old < vec_capacity next.old }
     requires last { (j : ℕ) → ends.newest_back ≡ Some j → j < length next.old.items }
     ensures linked { next.new.items ≡ links_after front number ends next.old.items }
@@ -154,7 +154,7 @@ pub fn link(next: &mut Vec<Option<u32>>, front: bool, number: u32, ends: Ends)
 }
 
 /// Takes back the link of the last record, and the one to it.
-pub fn unlink(next: &mut Vec<Option<u32>>, front: bool, ends: Ends)
+pub(crate) fn unlink(next: &mut Vec<Option<u32>>, front: bool, ends: Ends)
     ensures { (xs : List (Option ℕ)) (n : ℕ) → next.old.items ≡ links_after front n ends xs → WasEnd ends.newest_back xs → next.new.items ≡ xs }
 {
     next.pop();

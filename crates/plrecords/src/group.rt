@@ -24,12 +24,12 @@ pub struct United {
 }
 
 /// The number of a record in 32 bits, as far as these go.
-pub fn short(number: usize) -> u32 {
+pub(crate) fn short(number: usize) -> u32 {
     (number % (1 << 32)) as u32
 }
 
 /// The group of a record alone.
-pub fn alone(number: usize) -> Group {
+pub(crate) fn alone(number: usize) -> Group {
     Group {
         up: short(number),
         size: 1,
@@ -38,7 +38,7 @@ pub fn alone(number: usize) -> Group {
 }
 
 /// The first record of the run that one is in; itself where it is not erased.
-pub fn first_of(places: &[RecordNotes], number: usize) -> usize {
+pub(crate) fn first_of(places: &[RecordNotes], number: usize) -> usize {
     group_at(places, top_of(places, number)).first as usize
 }
 
@@ -64,7 +64,7 @@ fn group_at(places: &[RecordNotes], number: usize) -> Group {
 }
 
 /// Joins the groups of two records, of a run that begins with the first one.
-pub fn unite(places: &mut [RecordNotes], first: usize, last: usize) -> United
+pub(crate) fn unite(places: &mut [RecordNotes], first: usize, last: usize) -> United
     ensures same { SameRuns places.old places.new }
 {
     let one = top_of(places, first);
@@ -106,7 +106,7 @@ pub fn unite(places: &mut [RecordNotes], first: usize, last: usize) -> United
 }
 
 /// Separates two groups that were joined.
-pub fn separate(places: &mut [RecordNotes], united: &United)
+pub(crate) fn separate(places: &mut [RecordNotes], united: &United)
     ensures same { SameRuns places.old places.new }
 {
     let (low, top) = (united.low, united.top);

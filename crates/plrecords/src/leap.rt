@@ -15,7 +15,7 @@ pub struct Leap {
 }
 
 /// The leap of one more record: over the last two leaps where they are as wide as one another, else to the record before.
-pub fn leap_over(places: &[RecordNotes], older: Option<usize>, number: usize) -> Leap {
+pub(crate) fn leap_over(places: &[RecordNotes], older: Option<usize>, number: usize) -> Leap {
     match older {
         None => Leap {
             to: short(number),

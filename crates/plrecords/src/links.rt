@@ -92,7 +92,7 @@ impl Links {
     }
 
     /// The record that is next to one on its side.
-    pub fn next_to(&self, number: usize) -> Option<usize>
+    pub(crate) fn next_to(&self, number: usize) -> Option<usize>
         requires { number < length self.now.next.items }
         ensures { result ≡ slice_index_or self.now.next.items number None }
     {

@@ -31,7 +31,7 @@ pub struct RecordNotes {
 }
 
 /// The record whose link leads to one.
-pub fn before(places: &[RecordNotes], number: usize) -> Option<usize> {
+pub(crate) fn before(places: &[RecordNotes], number: usize) -> Option<usize> {
     let from = places.get(number)?.from as usize;
     if from == number { None } else { Some(from) }
 }
@@ -53,7 +53,7 @@ pub struct Buried {
 }
 
 /// The last record of the run that begins here, as far as a walk at `g` passes over it; else this record.
-pub fn run_end(places: &[RecordNotes], number: usize, g: u64) -> usize
+pub(crate) fn run_end(places: &[RecordNotes], number: usize, g: u64) -> usize
     requires { number < length places.now }
     ensures { result ≡ end_at g number (slice_index_or places.now number no_place).run }
 {
@@ -64,7 +64,7 @@ pub fn run_end(places: &[RecordNotes], number: usize, g: u64) -> usize
 }
 
 /// The first record of the run that this one is in, where a walk at `g` passes over that; else this record.
-pub fn passed_from(places: &[RecordNotes], number: usize, g: u64) -> usize {
+pub(crate) fn passed_from(places: &[RecordNotes], number: usize, g: u64) -> usize {
     let first = first_of(places, number);
     match run_at(places, first) {
         Some(run) if run.latest < g => first,
@@ -73,7 +73,7 @@ pub fn passed_from(places: &[RecordNotes], number: usize, g: u64) -> usize {
 }
 
 /// Takes note that a record is erased by a batch at a place, and joins it with the runs before it and behind it.
-pub fn bury(
+pub(crate) fn bury(
     places: &mut Vec<RecordNotes>,
     next: &[Option<u32>],
     number: usize,
@@ -186,7 +186,7 @@ fn begin(places: &mut [RecordNotes], first: usize, run: ErasedRun) -> Noted
 }
 
 /// Takes back what an erasure changed.
-pub fn unbury(places: &mut Vec<RecordNotes>, buried: &Buried)
+pub(crate) fn unbury(places: &mut Vec<RecordNotes>, buried: &Buried)
     ensures back { (xs : List RecordNotes) → HadRuns buried.now xs places.old.items → SameRuns xs places.new.items }
 {
     unbury_in(places.as_mut_slice(), buried);
@@ -228,7 +228,7 @@ fn set_from(places: &mut [RecordNotes], number: usize, from: usize)
 }
 
 /// Appends the place of one more record, for which there is room.
-pub fn add_place(places: &mut Vec<RecordNotes>, front: bool, number: usize, ends: Ends)
+pub(crate) fn add_place(places: &mut Vec<RecordNotes>, front: bool, number: usize, ends: Ends)
     requires { vec_len places.old < vec_capacity places.old }
     ensures runs { (c : Class) (rs : List Record) (r : Record) → HasRuns c rs places.old.items → HasRuns c (rs ++ r ∷ []) places.new.items }
     ensures more { MoreRuns places.old.items places.new.items }
@@ -248,7 +248,7 @@ pub fn add_place(places: &mut Vec<RecordNotes>, front: bool, number: usize, ends
 }
 
 /// Takes back the place of the last record.
-pub fn drop_place(places: &mut Vec<RecordNotes>, front: bool, ends: Ends)
+pub(crate) fn drop_place(places: &mut Vec<RecordNotes>, front: bool, ends: Ends)
     ensures back { (xs : List RecordNotes) → MoreRuns xs places.old.items → SameRuns xs places.new.items }
 {
     places.pop();
