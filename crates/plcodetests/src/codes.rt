@@ -5,8 +5,7 @@ use plcode::callee::Callee;
 use plcode::index::Procedure;
 use plcode::key::Key;
 use plcode::program::ProgramCode;
-use plload::load::load;
-use plprogram::program::Program;
+use plmade::code::code_of;
 use std::alloc::Global;
 use std::fmt::Write;
 use std::string::String;
@@ -28,14 +27,6 @@ const PLACES: [(Key, &str, &str); 5] = [
     (Key::Int(7), "3 ", "3 11 19 27 "),
 ];
 
-/// The program of a text.
-pub(crate) fn program(alloc: Global, text: &str) -> Result<Program, Fail> {
-    match load(alloc, text.as_bytes()) {
-        Ok(program) => Ok(program),
-        Err(_) => Err("refused".into()),
-    }
-}
-
 /// Whether a key leaves the clause of a place.
 fn leaves(procedure: &Procedure, key: Key, place: usize) -> bool
     requires { place ≤ length procedure.now }
@@ -52,12 +43,6 @@ fn left(alloc: Global, procedure: &Procedure, key: Key) -> Result<String, Fail> 
         }
     }
     Ok(found)
-}
-
-/// The code of a text's program.
-pub(crate) fn code_of(alloc: Global, text: &str) -> Result<ProgramCode, Fail> {
-    let program = program(alloc, text)?;
-    Ok(ProgramCode::new(alloc, &program)?)
 }
 
 /// The places of the clauses of the first procedure that a key leaves, one after the other.

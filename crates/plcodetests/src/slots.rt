@@ -1,4 +1,5 @@
 //! The slots of clauses.
+use plcells::cell::Cell;
 use plenv::env::Environment;
 use plenv::slot::Slot;
 use plmade::made::empty;
@@ -72,6 +73,28 @@ fn undone(env: &mut Environment) -> Result<[(usize, u64); 2], AllocError> {
     Ok([during, (env.slot_count(), env.count())])
 }
 
+/// The integer that stands in a slot, if one does.
+fn integer_in(env: &Environment, slot: u32) -> Option<i32> {
+    if slot as usize >= env.slot_count() {
+        return None;
+    }
+    match env.slot(slot) {
+        Slot::Set(Cell::Int(value)) => Some(value),
+        _ => None,
+    }
+}
+
+/// The integer that stands in a slot of a clause once it is set.
+fn set(env: &mut Environment) -> Result<Option<i32>, AllocError> {
+    let base = env.enter(2)?;
+    let slot = env.slot_of(base, 1);
+    let Slot::Free(_) = env.slot(slot) else {
+        return Ok(None);
+    };
+    env.set(slot, Cell::Int(5))?;
+    Ok(integer_in(env, slot))
+}
+
 #[test]
 fn slots_of_two_clauses(rt: HostRuntime) -> Result<(), Fail> {
     let mut env = empty(rt.alloc());
@@ -117,5 +140,13 @@ fn slots_that_are_undone(rt: HostRuntime) -> Result<(), Fail> {
     let mut env = empty(rt.alloc());
     let found = undone(&mut env)?;
     assert!(rt; found == [(7, 7), (3, 3)]);
+    Ok(())
+}
+
+#[test]
+fn slot_that_is_set(rt: HostRuntime) -> Result<(), Fail> {
+    let mut env = empty(rt.alloc());
+    let found = set(&mut env)?;
+    assert!(rt; found == Some(5));
     Ok(())
 }

@@ -1,6 +1,7 @@
 //! Goals that are put into an environment, and the texts of values.
 ghost use Rattle.std.specs.Prelude.{◌≡◌, IfOk, OnOk};
 ghost use Rattle.plterm.specs.Reading.{IsName};
+ghost use Rattle.platoms.specs.Names.{Extends as ExtendsNames, IsTable};
 ghost use Rattle.plterm.specs.Variables.{AllBelow};
 ghost use Rattle.plcells.specs.Store.{AreValues, IsValue};
 ghost use Rattle.plcells.specs.declared.cell.Cell.{Cell as OfCell};
@@ -29,14 +30,18 @@ pub fn empty(alloc: Global) -> Environment {
 
 /// Puts a term, its variables new: its value.
 pub fn put(env: &mut Environment, alloc: Global, term: &Term) -> Result<Cell, AllocError>
-    ensures { IfOk result (λ v. IsValue env.new.heap v) }
+    ensures value { IfOk result (λ v. IsValue env.new.heap v) }
+    ensures names { OnOk result (ExtendsNames env.old.heap.names env.new.heap.names) }
+    ensures table { OnOk result (IsTable env.new.heap.names) }
 {
     let copy = term.copy(alloc, 0)?;
     let variables = term.variables(alloc)?;
     let Ok(count) = u32::try_from(variables.len()) else {
         return Err(AllocError);
     };
-    env.put_term(alloc, &copy, count)
+    let put = env.put_term(alloc, &copy, count);
+    let _ = env.heap();
+    put
 }
 
 /// Puts the goal of a text: its value.

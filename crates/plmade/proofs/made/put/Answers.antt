@@ -3,8 +3,8 @@ use Rattle.plterm.specs.Variables.{variables}
 use Rattle.plterm.proofs.Belows.{AllBelow-copied_0}
 use Rattle.plmade.proofs.made.put.Goals as goal
 
-pub put_term-requires : goal.put_term-requires
-put_term-requires c =
+pub put_term-put-requires : goal.put_term-put-requires
+put_term-put-requires c =
     let g = c.args.term.now in
     let many : c.in-Ok.count ≡ length (variables g) = grind (arith, c.in-Ok.ensures, c.len.ensures, ap length c.in_ok-variables.ensures) in
     rw (c.in_ok-copy.ensures, many) (AllBelow-copied_0 g)

@@ -1,0 +1,15 @@
+use Rattle.std.proofs.Common.{sym, ◌∙◌, subst}
+use Rattle.plexpression.specs.Nodes.{IsNode}
+use Rattle.plcompiletests.proofs.heads.fitted_in.Goals as goal
+
+pub pair_fits-requires-clause-left : goal.pair_fits-requires-clause-left
+pair_fits-requires-clause-left c =
+    let l = c.args.clause.now in
+    let node = subst (λ ns. IsNode l.env ns l.base l.at) (sym c.deref.ensures.value) c.requires.node in
+    subst (λ ns. IsNode l.env ns l.base c.in_ok-pair.pair.left) (c.deref.ensures.value ∙ sym c.deref-2.ensures.value) (c.in_ok-pair.ensures.left l.env l.base node)
+
+pub pair_fits-requires-clause-right : goal.pair_fits-requires-clause-right
+pair_fits-requires-clause-right c =
+    let l = c.args.clause.now in
+    let node = subst (λ ns. IsNode l.env ns l.base l.at) (sym c.deref.ensures.value) c.requires.node in
+    subst (λ ns. IsNode l.env ns l.base c.in_ok-pair.pair.right) (c.deref.ensures.value ∙ sym c.deref-2.ensures.value) (c.in_ok-pair.ensures.right l.env l.base node)
