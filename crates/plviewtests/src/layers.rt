@@ -3,7 +3,7 @@ ghost use Rattle.std.specs.Prelude.{◌≡◌, true, false};
 ghost use Rattle.pltx.specs.Own.{any_open};
 
 use crate::made::{Change, name, update};
-use plevent::Update;
+use plevent::{JournalPlace, Update};
 use plterm::error::TermError;
 use pltx::{Ended, Erasure, Isolation};
 use plviews::Layer;
@@ -59,7 +59,7 @@ fn moved(alloc: Global, layer: &mut Layer, to: Move) -> Result<&'static str, Ter
     }
     match to {
         Move::Begin(kind, place) => {
-            layer.begin(kind, place)?;
+            layer.begin(kind, JournalPlace::new(place))?;
             Ok("begun")
         }
         _ => Ok("nothing is open"),
@@ -88,7 +88,7 @@ fn inside(alloc: Global, layer: &mut Layer, to: Move) -> Result<&'static str, Te
 type Stands = (Option<u64>, Option<(u64, u64)>);
 
 fn stands(layer: &Layer) -> Stands {
-    let place = layer.place();
+    let place = layer.place().map(|place| place.get());
     if !layer.is_open() {
         return (place, None);
     }
@@ -169,7 +169,7 @@ fn moves(rt: HostRuntime) -> Result<(), Fail> {
 }
 
 /// Begins the outermost one at a place, and takes the beginning back.
-fn begin_and_cancel(layer: &mut Layer, place: u64) -> Result<(), AllocError>
+fn begin_and_cancel(layer: &mut Layer, place: JournalPlace) -> Result<(), AllocError>
     requires { any_open layer.old.own ≡ false }
 {
     let before = layer.place();
@@ -183,9 +183,9 @@ fn cancelled(layer: &mut Layer) -> Result<(Stands, u64), AllocError> {
     if layer.is_open() {
         return Ok((stands(layer), 0));
     }
-    layer.begin(Isolation::Snapshot, 5)?;
+    layer.begin(Isolation::Snapshot, JournalPlace::new(5))?;
     let _end = layer.end(true);
-    begin_and_cancel(layer, 9)?;
+    begin_and_cancel(layer, JournalPlace::new(9))?;
     Ok((stands(layer), layer.own().len()))
 }
 

@@ -1,8 +1,13 @@
-//! Tests of keys, of records and drafts, of own updates, and of views, from the public calls of plevent, plstore, pltx and plviews.
+//! Tests of keys, of records, their links and drafts, of own updates, of views, of what a journal says of a run's end, and of
+//! the items of packed terms, from the public calls of plevent, plpack, plrecords, plstore, pltx and plviews.
 #![tactic(auto)]
 
 #[cfg(test)]
+mod chains;
+#[cfg(test)]
 mod drafts;
+#[cfg(test)]
+mod items;
 #[cfg(test)]
 mod keys;
 #[cfg(test)]
@@ -15,3 +20,5 @@ mod made;
 mod owns;
 #[cfg(test)]
 mod records;
+#[cfg(test)]
+mod standings;

@@ -3,7 +3,7 @@ ghost use Rattle.std.specs.Prelude.{IfOk, OnOk};
 ghost use Rattle.pltx.specs.Own.{IsOpen};
 
 use crate::made::{Change, indicator, key, name, update};
-use plevent::Update;
+use plevent::{JournalPlace, Update};
 use plterm::error::TermError;
 use pltx::{Isolation, Own, OwnCursor, Target};
 use std::alloc::{AllocError, Global};
@@ -46,7 +46,7 @@ pub fn eight(alloc: Global) -> Result<Own, TermError>
     ensures { IfOk result (λ own. IsOpen own) }
 {
     let mut own = Own::new(alloc);
-    own.begin(Isolation::Transaction, 9)?;
+    own.begin(Isolation::Transaction, JournalPlace::new(9))?;
     for change in CHANGES {
         make(alloc, &mut own, change)?;
     }
@@ -193,7 +193,10 @@ fn clauses_by_number(rt: HostRuntime) -> Result<(), Fail> {
 #[test]
 fn updates(rt: HostRuntime) -> Result<(), Fail> {
     let own = eight(rt.alloc())?;
-    assert_eq!(rt; (own.before_fronts(), own.len(), own.base()), (2, 8, 9));
+    assert_eq!(rt;
+        (own.before_fronts(), own.len(), own.base().get()),
+        (2, 8, 9)
+    );
     assert!(rt; matches!(own.update(5), Some(Update::EraseOwn(2))) && own.update(8).is_none());
     Ok(())
 }

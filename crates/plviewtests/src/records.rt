@@ -1,4 +1,4 @@
-//! Clauses that are kept with the places of their batches (plstore).
+//! Clauses that are kept with the places of their batches (plrecords).
 use crate::made::{fact, name};
 use plrecords::Record;
 use plterm::error::TermError;
@@ -28,10 +28,10 @@ const SEEN: [(Option<u64>, u64, bool); 6] = [
     (Some(5), 6, false),
 ];
 
-/// Whether the record is seen at a time.
-fn is_seen(alloc: Global, erased: Option<u64>, g: u64) -> Result<bool, TermError> {
+/// Whether the record is seen at a time, and whether its clause is given then.
+fn is_seen(alloc: Global, erased: Option<u64>, g: u64) -> Result<(bool, bool), TermError> {
     let record = record(alloc, erased)?;
-    Ok(record.is_seen(g))
+    Ok((record.is_seen(g), record.clause_at(g).is_some()))
 }
 
 // A clause is seen by who sees its batch and not that of its erasure.
@@ -39,7 +39,7 @@ fn is_seen(alloc: Global, erased: Option<u64>, g: u64) -> Result<bool, TermError
 fn records_in_time(rt: HostRuntime) -> Result<(), Fail> {
     for (erased, g, seen) in SEEN {
         assert!(rt;
-            is_seen(rt.alloc(), erased, g)? == seen,
+            is_seen(rt.alloc(), erased, g)? == (seen, seen),
             "{erased:?} at {g}"
         );
     }
