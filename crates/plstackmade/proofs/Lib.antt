@@ -1,0 +1,2 @@
+mod Markers
+mod Handlers
