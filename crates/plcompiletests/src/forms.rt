@@ -3,13 +3,12 @@ ghost use Rattle.platoms.specs.Names.{Extends as ExtendsNames};
 ghost use Rattle.plcode.specs.Callees.{IsProgramCode};
 ghost use Rattle.plprogram.specs.Program.{Program as Given};
 
-use crate::steps::goal;
 use plcode::program::ProgramCode;
 use plenv::env::Environment;
 use plgoals::callable::arguments_of;
 use plgoals::form::{Form, Procedure, form_of, static_of};
 use plmade::code::{environment_of, program};
-use plmade::made::put;
+use plmade::made::{goal_of, put};
 use plnames::kind::Side;
 use plprogram::program::Program;
 use plterm::term::Term;
@@ -95,7 +94,7 @@ fn form_by(
 /// The same of a text's goal.
 fn form(alloc: Global, text: &str) -> Result<(Option<u32>, &'static str), Fail> {
     let program = program(alloc, PROGRAM)?;
-    form_by(alloc, &program, &goal(alloc, text)?)
+    form_by(alloc, &program, &goal_of(alloc, text)?)
 }
 
 /// Goals that call procedures of the text or none, and goals of built-in predicates and predicates on clauses (7.8, 8).

@@ -14,8 +14,7 @@ use plenv::slot::{Row, Slot};
 use plexpression::number::unify_number;
 use plexpression::pair::{Pair, pair_at};
 use plhead::head::{Head, Matcher};
-use plload::goal::read_goal;
-use plmade::made::shown;
+use plmade::made::{goal_of, shown};
 use std::alloc::{AllocError, Global};
 use std::fmt::Write;
 use std::string::String;
@@ -36,9 +35,7 @@ fn laid(alloc: Global, text: &str) -> Result<Clause, Fail>
     ensures node { IfOk result (λ l. IsNode l.env l.nodes.items l.base l.at) }
     ensures slots { IfOk result (λ l. l.base + l.width ≤ length l.env.slots) }
 {
-    let Some(goal) = read_goal(alloc, text)? else {
-        return Err("no goal".into());
-    };
+    let goal = goal_of(alloc, text)?;
     let term = goal.copy(alloc, 0)?;
     let Ok(width) = u32::try_from(goal.variables(alloc)?.len()) else {
         return Err("too many variables".into());

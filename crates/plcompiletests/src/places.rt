@@ -3,7 +3,7 @@ ghost use Rattle.std.specs.Prelude.{◌≡◌, ◌≤◌, length, IfOk};
 ghost use Rattle.plcode.specs.Bodies.{IsCode};
 ghost use Rattle.plcode.specs.Steps.{text as text_of};
 
-use crate::steps::{goal, key_word, nodes_text, word};
+use crate::steps::{key_word, nodes_text, word};
 use plcode::body::compile_body;
 use plcode::clause::ClauseCode;
 use plcode::code::Code;
@@ -13,7 +13,7 @@ use plcode::key::{Key, key_of};
 use plcode::node::Node;
 use plcode::program::ProgramCode;
 use plmade::code::code_of;
-use plmade::made::name;
+use plmade::made::{goal_of, name};
 use plnames::table::NameTable;
 use plterm::term::Term;
 use plterm::walk::{Shape, TermRef};
@@ -47,7 +47,7 @@ fn keys_in(alloc: Global, code: &mut Draft, goal: &Term) -> Result<String, Fail>
 
 /// The same of a text's goal.
 fn keys(alloc: Global, text: &str) -> Result<String, Fail> {
-    let goal = goal(alloc, text)?;
+    let goal = goal_of(alloc, text)?;
     let mut code = Draft::new(alloc)?;
     keys_in(alloc, &mut code, &goal)
 }
@@ -164,7 +164,7 @@ fn code_text(alloc: Global, code: Draft, body: &Term) -> Result<String, Fail>
 
 /// The same of a text.
 fn body(alloc: Global, text: &str) -> Result<String, Fail> {
-    let goal = goal(alloc, text)?.copy(alloc, 0)?;
+    let goal = goal_of(alloc, text)?.copy(alloc, 0)?;
     let code = Draft::new(alloc)?;
     code_text(alloc, code, &goal)
 }

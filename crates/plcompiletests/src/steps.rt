@@ -16,9 +16,8 @@ use plcode::lay::lay_term;
 use plcode::node::Node;
 use plcode::op::{Op, Step};
 use plcode::program::ProgramCode;
-use plload::goal::read_goal;
 use plmade::code::{code_of, program};
-use plmade::made::name;
+use plmade::made::{goal_of, name};
 use plnames::table::NameTable;
 use plprogram::program::Program;
 use plterm::term::Term;
@@ -63,17 +62,9 @@ fn body_in(alloc: Global, code: &mut Draft, body: &Term) -> Result<String, Fail>
     sequence(alloc, &code.steps, at)
 }
 
-/// The term of a goal.
-pub(crate) fn goal(alloc: Global, text: &str) -> Result<Term, Fail> {
-    match read_goal(alloc, text)? {
-        Some(goal) => Ok(goal),
-        None => Err("no goal".into()),
-    }
-}
-
 /// The steps of the body of a text.
 fn body(alloc: Global, text: &str) -> Result<String, Fail> {
-    let goal = goal(alloc, text)?;
+    let goal = goal_of(alloc, text)?;
     let mut code = Draft::new(alloc)?;
     body_in(alloc, &mut code, &goal)
 }
@@ -112,7 +103,7 @@ fn key_in(alloc: Global, code: &mut Draft, head: &Term) -> Result<String, Fail>
 
 /// The same of a text.
 fn key(alloc: Global, text: &str) -> Result<String, Fail> {
-    let head = goal(alloc, text)?;
+    let head = goal_of(alloc, text)?;
     let mut code = Draft::new(alloc)?;
     key_in(alloc, &mut code, &head)
 }
@@ -243,7 +234,7 @@ fn laid_in(alloc: Global, names: &mut Names, term: &Term) -> Result<String, Fail
 
 /// The same of a text's goal, its variables numbered from 0 on.
 fn laid(alloc: Global, text: &str) -> Result<String, Fail> {
-    let goal = goal(alloc, text)?;
+    let goal = goal_of(alloc, text)?;
     let term = goal.copy(alloc, 0)?;
     let mut names = Names::new(alloc);
     laid_in(alloc, &mut names, &term)

@@ -1,8 +1,7 @@
 //! Terms that are seen to be apart from a value.
 use plbind::apart::are_apart;
 use plenv::env::Environment;
-use plload::goal::read_goal;
-use plmade::made::{empty, put_text};
+use plmade::made::{empty, goal_of, put_text};
 use std::alloc::Global;
 use std::test::Fail;
 
@@ -28,9 +27,7 @@ const APART: [(&str, &str, bool); 15] = [
 /// Whether the value of a text that is put and the term of another one are seen to be apart.
 fn apart_in(env: &mut Environment, alloc: Global, value: &str, text: &str) -> Result<bool, Fail> {
     let v = put_text(env, alloc, value)?;
-    let Some(term) = read_goal(alloc, text)? else {
-        return Err("no goal".into());
-    };
+    let term = goal_of(alloc, text)?;
     Ok(are_apart(env.heap(), v, &term.root()))
 }
 

@@ -3,8 +3,7 @@
 use crate::pairs::{FIFTH, FIRST, FOURTH, SECOND, THIRD};
 use crate::unification::unified_side;
 use plenv::env::Environment;
-use plload::goal::read_goal;
-use plmade::made::empty;
+use plmade::made::{empty, goal_of};
 use plterm::node::Node;
 use plterm::term::Term;
 use plterm::walk::Shape;
@@ -140,10 +139,7 @@ fn prefix(alloc: Global, term: &Term) -> Result<Vec<Node>, AllocError> {
 
 /// The two sides of a goal, their variables numbered from 0 on.
 fn sides(alloc: Global, goal: &str) -> Result<(Term, Term), Fail> {
-    let Some(goal) = read_goal(alloc, goal)? else {
-        return Err("no goal".into());
-    };
-    let goal = goal.copy(alloc, 0)?;
+    let goal = goal_of(alloc, goal)?.copy(alloc, 0)?;
     let Shape::Compound(_, mut args) = goal.root().shape() else {
         return Err("no compound".into());
     };

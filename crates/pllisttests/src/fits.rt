@@ -9,41 +9,12 @@ use plcells::cell::Cell;
 use plcode::key::Key;
 use plcode::program::ProgramCode;
 use plenv::env::Environment;
-use plgoals::callable::arguments_of;
 use plhead::head::Matcher;
 use plmade::code::{environment_of, program};
+use plmade::made::put_arguments;
 use plstack::fit::{Attempt, Found, first_fit};
-use plstackmade::made::goal;
-use plterm::term::Term;
 use std::alloc::{AllocError, Global};
 use std::test::Fail;
-
-/// Puts a term, its variables new: its value.
-fn put(env: &mut Environment, alloc: Global, term: &Term) -> Result<Cell, AllocError>
-    ensures value { IfOk result (λ v. IsValue env.new.heap v) }
-    ensures names { IfOk result (λ v. ExtendsNames env.old.heap.names env.new.heap.names) }
-{
-    let copy = term.copy(alloc, 0)?;
-    let variables = term.variables(alloc)?;
-    let Ok(count) = u32::try_from(variables.len()) else {
-        return Err(AllocError);
-    };
-    let put = env.put_term(alloc, &copy, count);
-    let _ = env.heap();
-    put
-}
-
-/// Puts the goal of a text: the values of its arguments.
-fn put_arguments(env: &mut Environment, alloc: Global, text: &str) -> Result<Vec<Cell>, Fail>
-    ensures values { IfOk result (λ vs. AreValues env.new.heap vs.items) }
-    ensures names { IfOk result (λ vs. ExtendsNames env.old.heap.names env.new.heap.names) }
-{
-    let term = goal(alloc, text)?;
-    let v = put(env, alloc, &term)?;
-    let mut values = Vec::new(alloc);
-    let _number = arguments_of(env.heap(), v, &mut values)?;
-    Ok(values)
-}
 
 /// The first clause from a number on of the first procedure that fits some values.
 fn first_of(

@@ -17,10 +17,9 @@ use plgoals::callable::arguments_of;
 use pllinks::item::Portion;
 use pllinks::level::Level;
 use pllinks::link::Continuation;
-use plload::goal::read_goal;
-use plload::load::load;
 use plmachine::machine::{Machine, Mode};
-use plmade::code::environment_of;
+use plmade::code::{self, environment_of};
+use plmade::made::goal_of;
 use plprogram::program::Program;
 use plstack::first::First;
 use plstack::stack::Stack;
@@ -40,7 +39,7 @@ const TEXT: &str = "
 
 /// That program.
 pub fn program(alloc: Global) -> Result<Program, Fail> {
-    Ok(load(alloc, TEXT.as_bytes())?)
+    code::program(alloc, TEXT)
 }
 
 /// A stack with nothing on it, of a program's code.
@@ -83,14 +82,6 @@ fn visit(stack: &mut Stack, alloc: Global, goal: &Term) -> Result<(), Fail>
     stack.open_plain()?;
     stack.visit(list);
     Ok(())
-}
-
-/// The goal of a text.
-fn goal_of(alloc: Global, text: &str) -> Result<Term, Fail> {
-    match read_goal(alloc, text)? {
-        Some(goal) => Ok(goal),
-        None => Err("no goal".into()),
-    }
 }
 
 /// A machine of a program at the goal of a text, behind which there is the goal `z`.

@@ -5,16 +5,13 @@ ghost use Rattle.plsolver.specs.Fetching.{Fetches};
 ghost use Rattle.plsolver.specs.Solver.{IsOf, IsReplyTo, WaitsForReply, latest_view};
 
 use plevent::{JournalPlace, Reply, Request, ThreadEnd, ThreadId, WorkerId};
-use plload::goal::read_goal;
-use plload::load::load;
-use plops::table::OpTable;
+use plmade::code::program as plain;
+use plmade::made::{goal_of, text_of};
 use plprogram::program::Program;
 use plsolver::solver::{Solver, Turn};
 use plstore::Query;
 use plterm::term::Term;
 use plworld::World;
-use plwrite::style::Style;
-use plwrite::write::write_term;
 use std::alloc::{AllocError, Global};
 use std::string::String;
 use std::test::Fail;
@@ -30,9 +27,9 @@ pub struct Going {
 
 /// A program with a goal.
 pub fn program(alloc: Global, text: &str, goal: &str) -> Result<Program, Fail> {
-    let goal = read_goal(alloc, goal)?;
-    let program = load(alloc, text.as_bytes())?;
-    Ok(program.with_goal(goal)?)
+    let goal = goal_of(alloc, goal)?;
+    let program = plain(alloc, text)?;
+    Ok(program.with_goal(Some(goal))?)
 }
 
 /// Whether a reply says that a request was served.
@@ -134,13 +131,6 @@ fn turn(
     }
 }
 
-/// A term as writeq/1 writes it under the standard operators (7.10.5); its variables are _1, _2, .. by first occurrence.
-fn text_of(alloc: Global, term: &Term) -> Result<String, Fail> {
-    let operators = OpTable::iso(alloc)?;
-    let text = write_term(alloc, term, &operators, Style::Quoted)?;
-    Ok(String::from_utf8(text)?)
-}
-
 /// The word of an end, or the ball of an exception.
 pub fn word(alloc: Global, end: &ThreadEnd) -> Result<String, Fail> {
     match end {
@@ -148,7 +138,7 @@ pub fn word(alloc: Global, end: &ThreadEnd) -> Result<String, Fail> {
         ThreadEnd::False => Ok(String::from_str(alloc, "false")?),
         ThreadEnd::Budget => Ok(String::from_str(alloc, "budget")?),
         ThreadEnd::Halt(status) => Ok(format!(in alloc; "halt({status})")?),
-        ThreadEnd::Exception(ball) => text_of(alloc, ball),
+        ThreadEnd::Exception(ball) => Ok(text_of(alloc, ball)?),
     }
 }
 

@@ -44,20 +44,28 @@ pub fn put(env: &mut Environment, alloc: Global, term: &Term) -> Result<Cell, Al
     put
 }
 
+/// The goal of a text.
+pub fn goal_of(alloc: Global, text: &str) -> Result<Term, Fail> {
+    match read_goal(alloc, text)? {
+        Some(goal) => Ok(goal),
+        None => Err("no goal".into()),
+    }
+}
+
 /// Puts the goal of a text: its value.
 pub fn put_text(env: &mut Environment, alloc: Global, text: &str) -> Result<Cell, Fail>
-    ensures { IfOk result (λ v. IsValue env.new.heap v) }
+    ensures value { IfOk result (λ v. IsValue env.new.heap v) }
+    ensures names { OnOk result (ExtendsNames env.old.heap.names env.new.heap.names) }
 {
-    let Some(goal) = read_goal(alloc, text)? else {
-        return Err("no goal".into());
-    };
+    let goal = goal_of(alloc, text)?;
     let v = put(env, alloc, &goal)?;
     Ok(v)
 }
 
 /// Puts the goal of a text: the values of its arguments.
 pub fn put_arguments(env: &mut Environment, alloc: Global, text: &str) -> Result<Vec<Cell>, Fail>
-    ensures { IfOk result (λ vs. AreValues env.new.heap vs.items) }
+    ensures values { IfOk result (λ vs. AreValues env.new.heap vs.items) }
+    ensures names { OnOk result (ExtendsNames env.old.heap.names env.new.heap.names) }
 {
     let goal = put_text(env, alloc, text)?;
     let mut args = Vec::new(alloc);
@@ -80,9 +88,7 @@ pub fn name(alloc: Global, text: &str) -> Result<Name, Fail>
 pub fn two_variables(alloc: Global, text: &str) -> Result<Term, Fail>
     ensures { IfOk result (λ t. AllBelow 2 t) }
 {
-    let Some(goal) = read_goal(alloc, text)? else {
-        return Err("no goal".into());
-    };
+    let goal = goal_of(alloc, text)?;
     let copy = goal.copy(alloc, 0)?;
     if goal.variables(alloc)?.len() != 2 {
         return Err("not two variables".into());

@@ -3,12 +3,13 @@ ghost use Rattle.std.specs.Prelude.{◌≡◌, [], IfOk};
 ghost use Rattle.plcells.specs.Store.{AreValues};
 ghost use Rattle.planswers.specs.Answers.{IsThere};
 
-use crate::made::{arguments, empty, goal_of, put};
+use crate::made::{arguments, empty, put};
 use crate::rows::{ATOMS, FLAGS, NUMBERS, ORDERS, OUTPUT, PARTS, TERMS};
 use crate::told::told;
 use planswers::answer::Answer;
 use plcells::cell::Cell;
 use plcells::heap::Heap;
+use plmade::made::goal_of;
 use plnames::kind::{BuiltIn, Comparison, Kind};
 use plnames::table::NameTable;
 use plpredicates::arithmetic::compares;

@@ -3,13 +3,14 @@ ghost use Rattle.std.specs.Prelude.{◌≡◌, [], IfOk};
 ghost use Rattle.plcells.specs.Store.{AreValues, IsValue};
 ghost use Rattle.planswers.specs.Answers.{IsThere};
 
-use crate::made::{arguments, empty, goal_of, put, text_of};
+use crate::made::{arguments, empty, put};
 use crate::told::{group_answer, told};
 use planswers::answer::Answer;
 use planswers::build::{compound_of_variables, list_of_variables};
 use planswers::equation::{are_terms, are_values, is_list_of, is_term, list_equation, solves};
 use plcells::cell::Cell;
 use plcells::heap::Heap;
+use plmade::made::{goal_of, text_of};
 use plterm::name::Name;
 use plterm::term::Term;
 use std::alloc::{AllocError, Global};

@@ -2,7 +2,7 @@
 ghost use Rattle.std.specs.Prelude.{◌≡◌, []};
 ghost use Rattle.plcells.specs.Store.{AreValues, IsValue};
 
-use crate::made::{empty, put_arguments, text_of, word};
+use crate::made::{empty, put_arguments, word};
 use planswers::answer::Answer;
 use planswers::error;
 use plcells::cell::Cell;
@@ -10,6 +10,7 @@ use plcells::heap::Heap;
 use plerror::error::{
     domain_error, instantiation_error, permission_error, representation_error, syntax_error,
 };
+use plmade::made::text_of;
 use plterm::term::Term;
 use std::alloc::{AllocError, Global};
 use std::string::String;
@@ -128,7 +129,7 @@ const ERRORS: [(Amiss, &str, &str); 15] = [
 /// The text of an error, if there is one.
 fn told(alloc: Global, error: &Option<Term>) -> Result<String, Fail> {
     match error {
-        Some(error) => text_of(alloc, error),
+        Some(error) => Ok(text_of(alloc, error)?),
         None => word(alloc, "none"),
     }
 }

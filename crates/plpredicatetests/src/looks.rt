@@ -2,7 +2,7 @@
 ghost use Rattle.std.specs.Prelude.{◌≡◌, []};
 ghost use Rattle.plcells.specs.Store.{AreValues, IsValue};
 
-use crate::made::{empty, put_arguments, shown, text_of, word};
+use crate::made::{empty, put_arguments, word};
 use planswers::build::spelled;
 use planswers::list::{
     Checked, Tail, cell_of, elements_of, end_of, is_partial, is_variable, may_be_list, tail_of,
@@ -12,6 +12,7 @@ use planswers::text::{atom_of, character_of, text_in};
 use plcells::cell::Cell;
 use plcells::heap::Heap;
 use plgenerator::argument;
+use plmade::made::{shown, text_of};
 use plnames::kind::Spelling;
 use std::alloc::Global;
 use std::fmt::Write;
@@ -80,7 +81,7 @@ fn whole(alloc: Global, heap: &Heap, v: &Cell) -> Result<String, Fail>
     let checked = whole_list(alloc, heap, v)?;
     match &checked {
         Checked::Whole(items) => texts(alloc, heap, items),
-        Checked::Amiss(error) => text_of(alloc, error),
+        Checked::Amiss(error) => Ok(text_of(alloc, error)?),
     }
 }
 
@@ -90,7 +91,7 @@ fn spelling(alloc: Global, heap: &Heap, k: Spelling, v: &Cell) -> Result<String,
 {
     match text_in(alloc, heap, k, *v)? {
         Ok(text) => Ok(text),
-        Err(error) => text_of(alloc, &error),
+        Err(error) => Ok(text_of(alloc, &error)?),
     }
 }
 
@@ -100,7 +101,7 @@ fn character(alloc: Global, heap: &Heap, k: Spelling, v: &Cell) -> Result<String
 {
     match character_of(alloc, heap, k, *v)? {
         Ok(c) => Ok(format!(in alloc; "{c}")?),
-        Err(error) => text_of(alloc, &error),
+        Err(error) => Ok(text_of(alloc, &error)?),
     }
 }
 
@@ -265,10 +266,10 @@ enum Making {
 /// What is made of a text, as text.
 fn made(alloc: Global, how: Making, text: &str) -> Result<String, Fail> {
     match how {
-        Making::List(k) => text_of(alloc, &spelled(alloc, k, text)?),
+        Making::List(k) => Ok(text_of(alloc, &spelled(alloc, k, text)?)?),
         Making::Atom => match atom_of(alloc, text)? {
-            Ok(atom) => text_of(alloc, &atom),
-            Err(error) => text_of(alloc, &error),
+            Ok(atom) => Ok(text_of(alloc, &atom)?),
+            Err(error) => Ok(text_of(alloc, &error)?),
         },
     }
 }

@@ -1,4 +1,4 @@
-//! Goals that are put on a heap, and the texts of terms.
+//! Goals that are put on a heap.
 ghost use Rattle.std.specs.Prelude.{◌≡◌, [], length, IfOk};
 ghost use Rattle.plterm.specs.Variables.{AllBelow};
 ghost use Rattle.plcells.specs.Store.{AreValues, IsValue};
@@ -6,11 +6,8 @@ ghost use Rattle.plcells.specs.Store.{AreValues, IsValue};
 use platoms::names::Names;
 use plcells::cell::Cell;
 use plcells::heap::Heap;
-use plload::goal::read_goal;
-use plops::table::OpTable;
+use plmade::made::goal_of;
 use plterm::term::Term;
-use plwrite::style::Style;
-use plwrite::write::write_term;
 use std::alloc::{AllocError, Global};
 use std::string::String;
 use std::test::Fail;
@@ -30,14 +27,6 @@ pub(crate) fn empty(alloc: Global) -> Heap
     ensures { result.cells ≡ [] }
 {
     Heap::new(alloc, Names::new(alloc))
-}
-
-/// The goal of a text.
-pub(crate) fn goal_of(alloc: Global, text: &str) -> Result<Term, Fail> {
-    match read_goal(alloc, text)? {
-        Some(goal) => Ok(goal),
-        None => Err("no goal".into()),
-    }
 }
 
 /// So many new variables on a heap with nothing on it.
@@ -103,21 +92,6 @@ pub(crate) fn put_arguments(heap: &mut Heap, alloc: Global, text: &str) -> Resul
     let term = goal_of(alloc, text)?;
     let goal = put(heap, alloc, &term)?;
     Ok(arguments(alloc, heap, goal.value)?)
-}
-
-/// The text of a term, quoted, its variables _1, _2, .. by first occurrence.
-pub(crate) fn text_of(alloc: Global, term: &Term) -> Result<String, Fail> {
-    let operators = OpTable::iso(alloc)?;
-    let text = write_term(alloc, term, &operators, Style::Quoted)?;
-    Ok(String::from_utf8_lossy(alloc, &text)?)
-}
-
-/// The text of a value's term.
-pub(crate) fn shown(alloc: Global, heap: &Heap, v: Cell) -> Result<String, Fail>
-    requires { IsValue heap.now v }
-{
-    let term = heap.take(alloc, v)?;
-    text_of(alloc, &term)
 }
 
 /// A text as its own.

@@ -4,7 +4,7 @@ ghost use Rattle.std.specs.Str.{chars};
 ghost use Rattle.plcells.specs.Store.{AreValues, IsValue};
 ghost use Rattle.plgenerator.specs.Turns.{IsPart, IsSplit};
 
-use crate::made::{Goal, arguments, empty, goal_of, put, put_arguments, text_of, word};
+use crate::made::{Goal, arguments, empty, put, put_arguments, word};
 use crate::told::solved;
 use plcells::cell::Cell;
 use plcells::equation::Equation;
@@ -15,6 +15,7 @@ use plgenerator::part::all_parts;
 use plgenerator::split::all_splits;
 use plgenerator::turn::{Groups, Part, Remaining, Split};
 use plgenerator::wanted::Sought;
+use plmade::made::{goal_of, text_of};
 use plterm::term::Term;
 use std::alloc::Global;
 use std::string::String;
@@ -188,7 +189,7 @@ fn integers(alloc: Global, count: usize) -> Result<String, Fail> {
         return Err("no terms".into());
     }
     let term = together(alloc, terms)?;
-    text_of(alloc, &term)
+    Ok(text_of(alloc, &term)?)
 }
 
 #[test]

@@ -7,7 +7,7 @@ ghost use Rattle.plcells.specs.Store.{AreValues, IsValue};
 ghost use Rattle.plgenerator.specs.Answers.{IsRemaining};
 ghost use Rattle.planswers.specs.Answers.{IsThere};
 
-use crate::made::{Goal, shown, text_of, word};
+use crate::made::{Goal, word};
 use planswers::answer::Answer;
 use planswers::equation::are_together;
 use plbind::unify::{Scratch, unify};
@@ -16,6 +16,7 @@ use plcells::equation::Equation;
 use plcells::heap::Heap;
 use plgenerator::generator::next;
 use plgenerator::turn::Remaining;
+use plmade::made::{shown, text_of};
 use plops::table::OpTable;
 use plprogram::settings::Settings;
 use plterm::term::Term;
@@ -41,7 +42,7 @@ fn unified(
     if !unify(heap, &mut scratch, left, right)? {
         return word(alloc, "no");
     }
-    shown(alloc, heap, goal)
+    Ok(shown(alloc, heap, goal)?)
 }
 
 /// `yes`, where two values have no unifier, and else `no`.
@@ -236,9 +237,9 @@ pub(crate) fn told(
     requires answer { IsThere heap.old answer.now }
 {
     match answer {
-        Answer::Raises(error) => text_of(alloc, error),
+        Answer::Raises(error) => Ok(text_of(alloc, error)?),
         Answer::Fails => word(alloc, "no"),
-        Answer::Succeeds => shown(alloc, heap, goal.value),
+        Answer::Succeeds => Ok(shown(alloc, heap, goal.value)?),
         Answer::Unifies(left, right) => unified(heap, alloc, goal.value, *left, *right),
         Answer::Differs(left, right) => different(heap, alloc, *left, *right),
         Answer::Equals(v, number) => equal(heap, alloc, goal.value, *v, *number),

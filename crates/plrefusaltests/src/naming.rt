@@ -1,9 +1,8 @@
 //! What dynamic/1 makes of the terms that are to name procedures.
 use plclause::named::named_terms;
 use plevent::update::Update;
-use plload::goal::read_goal;
-use plload::load::load;
-use plmade::made::text_of;
+use plmade::code::program;
+use plmade::made::{goal_of, text_of};
 use plprogram::program::Program;
 use plrefusals::naming::{Declaration, declared};
 use plterm::term::Term;
@@ -58,9 +57,7 @@ fn of_term(alloc: Global, program: &Program, term: &Term) -> Result<String, Fail
 }
 
 fn of_text(alloc: Global, program: &Program, text: &str) -> Result<String, Fail> {
-    let Some(term) = read_goal(alloc, text)? else {
-        return Err("no term".into());
-    };
+    let term = goal_of(alloc, text)?;
     of_term(alloc, program, &term)
 }
 
@@ -80,9 +77,7 @@ fn unlike(alloc: Global, program: &Program) -> Result<String, Fail> {
 #[test]
 fn what_is_declared(rt: HostRuntime) -> Result<(), Fail> {
     let alloc = rt.alloc();
-    let Ok(program) = load(alloc, ":- dynamic(d/1). d(1). s(1).".as_bytes()) else {
-        return Err("refused".into());
-    };
+    let program = program(alloc, ":- dynamic(d/1). d(1). s(1).")?;
     let rows = unlike(alloc, &program)?;
     assert_eq!(rt; rows.as_str(), "");
     Ok(())

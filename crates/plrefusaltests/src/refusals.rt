@@ -4,7 +4,7 @@ ghost use Rattle.plcells.specs.Store.{AreValues, IsValue};
 use plcells::cell::Cell;
 use plcells::heap::Heap;
 use plenv::env::Environment;
-use plload::load::load;
+use plmade::code::program;
 use plmade::made::{empty, put_arguments, text_of};
 use plprogram::program::Program;
 use plrefusals::refusal::{is_static, no_body, no_head, unchangeable, unerasable, unreadable};
@@ -173,9 +173,7 @@ fn unlike(alloc: Global, program: &Program) -> Result<String, Fail> {
 #[test]
 fn what_is_refused(rt: HostRuntime) -> Result<(), Fail> {
     let alloc = rt.alloc();
-    let Ok(program) = load(alloc, TEXT.as_bytes()) else {
-        return Err("refused".into());
-    };
+    let program = program(alloc, TEXT)?;
     let rows = unlike(alloc, &program)?;
     assert_eq!(rt; rows.as_str(), "");
     Ok(())

@@ -1,4 +1,4 @@
-//! Tests of the crates of the database and the run, and of packed terms and values, from the public calls of each.
+//! Tests of the crates of the database and the run, and of packed values, from the public calls of each.
 #![tactic(auto)]
 
 #[cfg(test)]
@@ -9,8 +9,6 @@ mod histories;
 mod made;
 #[cfg(test)]
 mod owns;
-#[cfg(test)]
-mod packs;
 #[cfg(test)]
 mod stores;
 #[cfg(test)]

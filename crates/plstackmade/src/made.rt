@@ -16,23 +16,14 @@ use plgoals::form::static_of;
 use pllinks::item::Portion;
 use pllinks::level::Level;
 use pllinks::link::Continuation;
-use plload::goal::read_goal;
 use plmade::code::{environment_of, program};
+use plmade::made::goal_of;
 use plprogram::program::Program;
 use plstack::first::First;
 use plstack::frame::Around;
 use plstack::stack::Stack;
-use plterm::term::Term;
 use std::alloc::{AllocError, Global};
 use std::test::Fail;
-
-/// The goal of a text.
-pub fn goal(alloc: Global, text: &str) -> Result<Term, Fail> {
-    match read_goal(alloc, text)? {
-        Some(goal) => Ok(goal),
-        None => Err("no goal".into()),
-    }
-}
 
 /// A stack of a program with nothing on it.
 fn empty(alloc: Global, program: &Program) -> Result<Stack, AllocError>
@@ -106,7 +97,7 @@ fn begin(stack: &mut Stack, alloc: Global, text: &str) -> Result<(), Fail>
     requires frames { stack.old.frames ≡ [] }
     ensures basis { OnOk result (stack.new.basis ≡ stack.old.basis) }
 {
-    let term = goal(alloc, text)?;
+    let term = goal_of(alloc, text)?;
     let v = stack.put_copy(alloc, &term)?;
     start(stack, v)?;
     if !call_first(stack, alloc)? {

@@ -7,9 +7,10 @@ ghost use Rattle.plstack.specs.Levels.{transact_at, MayCut, Sort};
 ghost use Rattle.plstack.specs.State.{Extends};
 
 use crate::first::list;
-use crate::made::{enter, goal};
+use crate::made::enter;
 use plcells::cell::Cell;
 use pllinks::item::{MarkerKind, Portion};
+use plmade::made::goal_of;
 use plstack::frame::{Around, Catcher, Handler, Handling};
 use plstack::stack::Stack;
 use std::alloc::Global;
@@ -76,7 +77,7 @@ pub fn put(stack: &mut Stack, alloc: Global, text: &str) -> Result<Cell, Fail>
     ensures value { IfOk result (λ v. IsValue stack.new.env.heap v) }
     ensures stays { Extends stack.old stack.new }
 {
-    let term = goal(alloc, text)?;
+    let term = goal_of(alloc, text)?;
     Ok(stack.put_copy(alloc, &term)?)
 }
 

@@ -1,4 +1,4 @@
-//! Tests of the crates of values, of operators and of loading, from the public calls of each.
+//! Tests of the crates of values, of operators, of packed terms and of loading, from the public calls of each.
 #![tactic(auto)]
 
 #[cfg(test)]
@@ -8,6 +8,8 @@ mod characters;
 #[cfg(test)]
 mod command_lines;
 #[cfg(test)]
+mod items;
+#[cfg(test)]
 mod loading;
 #[cfg(test)]
 mod names;
@@ -15,5 +17,7 @@ mod names;
 mod numbers;
 #[cfg(test)]
 mod operators;
+#[cfg(test)]
+mod packs;
 #[cfg(test)]
 mod terms;

@@ -1,13 +1,11 @@
-//! Tests of keys, of records, their links and drafts, of own updates, of views, of what a journal says of a run's end, and of
-//! the items of packed terms, from the public calls of plevent, plpack, plrecords, plstore, pltx and plviews.
+//! Tests of keys, of records, their links and drafts, of own updates, of views, and of what a journal says of a run's end, from
+//! the public calls of plevent, plrecords, plstore, pltx and plviews.
 #![tactic(auto)]
 
 #[cfg(test)]
 mod chains;
 #[cfg(test)]
 mod drafts;
-#[cfg(test)]
-mod items;
 #[cfg(test)]
 mod keys;
 #[cfg(test)]
