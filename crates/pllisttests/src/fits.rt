@@ -13,7 +13,7 @@ use plhead::head::Matcher;
 use plmade::code::{environment_of, program};
 use plmade::made::put_arguments;
 use plstack::fit::{Attempt, Found, first_fit};
-use std::alloc::{AllocError, Global};
+use std::alloc::Global;
 use std::test::Fail;
 
 /// The first clause from a number on of the first procedure that fits some values.

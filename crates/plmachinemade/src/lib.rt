@@ -2,4 +2,5 @@
 #![tactic(auto)]
 
 pub mod made;
+pub mod rows;
 pub mod told;

@@ -84,14 +84,23 @@ fn visit(stack: &mut Stack, alloc: Global, goal: &Term) -> Result<(), Fail>
     Ok(())
 }
 
-/// A machine of a program at the goal of a text, behind which there is the goal `z`.
-pub fn machine(alloc: Global, program: &Program, text: &str) -> Result<Machine, Fail>
+/// A stack of a program's code in which a goal is visited, and behind it the goal `z`.
+fn visited(alloc: Global, program: &Program, goal: &Term) -> Result<Stack, Fail>
+    ensures code { IfOk result (λ s. IsProgramCode program.now s.basis.code) }
+    ensures latest { IfOk result (λ s. s.basis.latest ≡ record { place = 0; count = 0 }) }
+    ensures starts { IfOk result (λ s. s.basis.starts ≡ []) }
+{
+    let mut stack = empty(alloc, program)?;
+    visit(&mut stack, alloc, goal)?;
+    Ok(stack)
+}
+
+/// A machine of a program at a goal, behind which there is the goal `z`.
+fn machine_at(alloc: Global, program: &Program, goal: &Term) -> Result<Machine, Fail>
     ensures { IfOk result (λ s. IsReady program.now s) }
 {
-    let goal = goal_of(alloc, text)?;
-    let mut stack = empty(alloc, program)?;
-    visit(&mut stack, alloc, &goal)?;
     let settings = program.settings().copied(alloc)?;
+    let stack = visited(alloc, program, goal)?;
     Ok(Machine {
         alloc,
         stack,
@@ -102,6 +111,14 @@ pub fn machine(alloc: Global, program: &Program, text: &str) -> Result<Machine, 
         kept: Collection::new(alloc),
         args: Vec::new(alloc),
     })
+}
+
+/// A machine of a program at the goal of a text, behind which there is the goal `z`.
+pub fn machine(alloc: Global, program: &Program, text: &str) -> Result<Machine, Fail>
+    ensures { IfOk result (λ s. IsReady program.now s) }
+{
+    let goal = goal_of(alloc, text)?;
+    machine_at(alloc, program, &goal)
 }
 
 /// The goal that a machine visits first: its level, its value, the number by which it is called, the values of its arguments, and the list behind

@@ -10,7 +10,6 @@ use plmade::made::{goal_of, text_of};
 use plprogram::program::Program;
 use plsolver::solver::{Solver, Turn};
 use plstore::Query;
-use plterm::term::Term;
 use plworld::World;
 use std::alloc::{AllocError, Global};
 use std::string::String;

@@ -13,18 +13,16 @@ use plcode::callee::Number;
 use plgoals::form::{Form, form_of};
 use plmachine::machine::{Machine, Mode};
 use plmachine::select::Source;
-use plmachinemade::made::{first_called, first_goal, machine, program};
-use plmachinemade::told::told;
+use plmachinemade::made::{first_called, first_goal};
+use plmachinemade::rows::{Doing, Row, others, others_by};
 use plprogram::program::Program;
 use plstack::first::First;
 use plstack::stack::Stack;
-use std::alloc::Global;
-use std::string::String;
 use std::test::Fail;
 
 /// How the goal that is visited first is selected.
 #[derive(Clone, Copy)]
-enum Row {
+enum Call {
     /// By its form.
     Select,
     /// As a term.
@@ -114,41 +112,15 @@ fn built_in(machine: &mut Machine) -> Result<(), Fail>
     Ok(())
 }
 
-/// The call of a row.
-fn call(program: &Program, machine: &mut Machine, row: Row) -> Result<(), Fail>
-    requires { IsReady program.now machine.old }
-{
-    match row {
-        Row::Select => select(program, machine),
-        Row::Term => term(program, machine),
-        Row::Step => step(program, machine),
-        Row::BuiltIn => built_in(machine),
+impl Doing for Call {
+    fn call(&self, program: &Program, machine: &mut Machine) -> Result<(), Fail> {
+        match *self {
+            Call::Select => select(program, machine),
+            Call::Term => term(program, machine),
+            Call::Step => step(program, machine),
+            Call::BuiltIn => built_in(machine),
+        }
     }
-}
-
-/// What the call of a row makes of a machine of a program.
-fn made_in(
-    alloc: Global,
-    program: &Program,
-    machine: &mut Machine,
-    row: Row,
-) -> Result<String, Fail>
-    requires { IsReady program.now machine.old }
-{
-    call(program, machine, row)?;
-    told(alloc, machine)
-}
-
-/// The same of a machine at the goal of a text.
-fn made_of(alloc: Global, program: &Program, row: Row, text: &str) -> Result<String, Fail> {
-    let mut machine = machine(alloc, program, text)?;
-    made_in(alloc, program, &mut machine, row)
-}
-
-/// The same of the program of all machines.
-fn made(alloc: Global, row: Row, text: &str) -> Result<String, Fail> {
-    let program = program(alloc)?;
-    made_of(alloc, &program, row, text)
 }
 
 /// Goals, and what they make of a machine, as the rows of control.
@@ -209,44 +181,44 @@ const GOALS: [(&str, &str); 32] = [
 ];
 
 /// Ways to select a goal, goals, and what they make of a machine.
-const ROWS: [(Row, &str, &str); 12] = [
+const ROWS: [Row<Call>; 12] = [
     (
-        Row::Step,
+        Call::Step,
         "r(or)",
         "visits *goal@1 z@0 | branch 3 *goal@1 z@0",
     ),
     (
-        Row::Step,
+        Call::Step,
         "r(then)",
         "visits *goal@3 commit@2 *goal@1 z@0 | plain 4 branch 3 *goal@1 z@0",
     ),
     (
-        Row::Step,
+        Call::Step,
         "r(else)",
         "visits *goal@3 commit@2 *goal@1 z@0 | plain 4 branch 3 *goal@1 z@0",
     ),
     (
-        Row::Step,
+        Call::Step,
         "r(both)",
         "visits *goal@1 z@0 | plain 3 clauses 2",
     ),
-    (Row::Step, "r(x)", "visits *goal@1 z@0 | plain 2 none 0"),
-    (Row::Step, "r(y)", "fails | plain 2 none 0"),
-    (Row::BuiltIn, "f(X, a) = f(b, X)", "fails | plain 1 none 0"),
-    (Row::BuiltIn, "X = f(X)", "fails | plain 1 none 0"),
-    (Row::BuiltIn, "X is 6 * 7", "visits z@0 | plain 1 none 0"),
+    (Call::Step, "r(x)", "visits *goal@1 z@0 | plain 2 none 0"),
+    (Call::Step, "r(y)", "fails | plain 2 none 0"),
+    (Call::BuiltIn, "f(X, a) = f(b, X)", "fails | plain 1 none 0"),
+    (Call::BuiltIn, "X = f(X)", "fails | plain 1 none 0"),
+    (Call::BuiltIn, "X is 6 * 7", "visits z@0 | plain 1 none 0"),
     (
-        Row::BuiltIn,
+        Call::BuiltIn,
         "X is 1 + a",
         "throws error(type_error(evaluable,a/0),(is)/2) | plain 1 none 0",
     ),
     (
-        Row::BuiltIn,
+        Call::BuiltIn,
         "sub_atom(ab, X, 1, Y, Z)",
         "visits z@0 | answers 2",
     ),
     (
-        Row::BuiltIn,
+        Call::BuiltIn,
         "writeq('A b')",
         "visits z@0 | plain 1 none 0'A b'",
     ),
@@ -254,22 +226,21 @@ const ROWS: [(Row, &str, &str); 12] = [
 
 #[test]
 fn rows_of_goals(rt: HostRuntime) -> Result<(), Fail> {
-    let alloc = rt.alloc();
-    for (text, wanted) in GOALS {
-        let found = made(alloc, Row::Select, text)?;
-        assert_eq!(rt; found.as_str(), wanted);
-        let found = made(alloc, Row::Term, text)?;
-        assert_eq!(rt; found.as_str(), wanted);
-    }
+    let others = others_by(rt.alloc(), &Call::Select, &GOALS)?;
+    assert_eq!(rt; others.as_str(), "");
+    Ok(())
+}
+
+#[test]
+fn rows_of_terms(rt: HostRuntime) -> Result<(), Fail> {
+    let others = others_by(rt.alloc(), &Call::Term, &GOALS)?;
+    assert_eq!(rt; others.as_str(), "");
     Ok(())
 }
 
 #[test]
 fn rows(rt: HostRuntime) -> Result<(), Fail> {
-    let alloc = rt.alloc();
-    for (row, text, wanted) in ROWS {
-        let found = made(alloc, row, text)?;
-        assert_eq!(rt; found.as_str(), wanted);
-    }
+    let others = others(rt.alloc(), &ROWS)?;
+    assert_eq!(rt; others.as_str(), "");
     Ok(())
 }

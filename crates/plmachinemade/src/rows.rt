@@ -1,0 +1,85 @@
+//! Rows of what is done with machines, and what it makes of them.
+ghost use Rattle.plmachinemade.specs.Ready.{IsReady};
+
+use crate::made::{machine, program};
+use crate::told::told;
+use plmachine::machine::Machine;
+use plprogram::program::Program;
+use std::alloc::Global;
+use std::fmt::Write;
+use std::string::String;
+use std::test::Fail;
+
+/// What is done with a machine of a program at a goal, mostly one call of it, of which that goal has the arguments.
+pub trait Doing {
+    /// Does it.
+    fn call(&self, program: &Program, machine: &mut Machine) -> Result<(), Fail>
+        requires { IsReady program.now machine.old };
+}
+
+/// What is done, the text of a goal, and what that makes of a machine at the goal.
+pub type Row<D> = (D, &'static str, &'static str);
+
+/// What is made of a machine by what is done with it.
+fn made_in<D: Doing>(
+    alloc: Global,
+    program: &Program,
+    machine: &mut Machine,
+    doing: &D,
+) -> Result<String, Fail>
+    requires { IsReady program.now machine.old }
+{
+    doing.call(program, machine)?;
+    told(alloc, machine)
+}
+
+/// The same of a machine at the goal of a text.
+fn made<D: Doing>(alloc: Global, program: &Program, doing: &D, text: &str) -> Result<String, Fail> {
+    let mut machine = machine(alloc, program, text)?;
+    made_in(alloc, program, &mut machine, doing)
+}
+
+/// Adds what is made of a machine of a program at the goal of a text, where it is not what is wanted.
+fn put_other<D: Doing>(
+    others: &mut String,
+    alloc: Global,
+    program: &Program,
+    doing: &D,
+    row: (&str, &str),
+) -> Result<(), Fail> {
+    let (text, wanted) = row;
+    let found = made(alloc, program, doing, text)?;
+    if found.as_str() != wanted {
+        write!(others, "{text}: {found} in place of {wanted}, ")?;
+    }
+    Ok(())
+}
+
+/// What is made of machines of a program otherwise than rows say.
+fn others_of<D: Doing>(alloc: Global, program: &Program, rows: &[Row<D>]) -> Result<String, Fail> {
+    let mut others = String::new(alloc);
+    for (doing, text, wanted) in rows {
+        put_other(&mut others, alloc, program, doing, (*text, *wanted))?;
+    }
+    Ok(others)
+}
+
+/// The same of the program of all machines.
+pub fn others<D: Doing>(alloc: Global, rows: &[Row<D>]) -> Result<String, Fail> {
+    let program = program(alloc)?;
+    others_of(alloc, &program, rows)
+}
+
+/// What is made of machines at goals by one thing that is done, otherwise than is said with the goals.
+pub fn others_by<D: Doing>(
+    alloc: Global,
+    doing: &D,
+    goals: &[(&'static str, &'static str)],
+) -> Result<String, Fail> {
+    let program = program(alloc)?;
+    let mut others = String::new(alloc);
+    for row in goals {
+        put_other(&mut others, alloc, &program, doing, *row)?;
+    }
+    Ok(others)
+}
