@@ -1,6 +1,6 @@
 //! Unification as it is defined, on the nodes of terms in prefix order, beside the machine's: where two terms first differ from the left, a
 //! variable stands for the term on the other side, in both of them, until they are the same.
-use crate::pairs::{FIFTH, FIRST, FOURTH, SECOND, THIRD};
+use crate::pairs::PAIRS;
 use crate::unification::unified_side;
 use plenv::env::Environment;
 use plmade::made::{empty, goal_of};
@@ -188,15 +188,24 @@ fn first_apart(alloc: Global, pairs: &[(&str, &str)]) -> Result<Option<usize>, F
     Ok(None)
 }
 
-/// All pairs that look random.
-const PAIRS: [&[(&str, &str)]; 5] = [&FIRST, &SECOND, &THIRD, &FOURTH, &FIFTH];
+/// The same of some groups of pairs: the place of the group, and of the pair in it.
+fn first_apart_of(
+    alloc: Global,
+    groups: &[&[(&str, &str)]],
+) -> Result<Option<(usize, usize)>, Fail> {
+    for (place, pairs) in groups.iter().enumerate() {
+        if let Some(pair) = first_apart(alloc, pairs)? {
+            return Ok(Some((place, pair)));
+        }
+    }
+    Ok(None)
+}
 
-// They come to the same by the machine and by the definition.
+// Pairs that look random come to the same by the machine and by the definition.
 #[test]
 fn pairs_by_definition(rt: HostRuntime) -> Result<(), Fail> {
-    let alloc = rt.alloc();
-    for pairs in PAIRS {
-        assert_eq!(rt; first_apart(alloc, pairs)?, None);
+    for groups in PAIRS {
+        assert_eq!(rt; first_apart_of(rt.alloc(), groups)?, None);
     }
     Ok(())
 }

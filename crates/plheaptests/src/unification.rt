@@ -2,7 +2,7 @@
 ghost use Rattle.std.specs.Prelude.{IfOk, IfSome};
 ghost use Rattle.plcells.specs.Store.{IsValue};
 
-use crate::pairs::{FIFTH, FIRST, FOURTH, SECOND, THIRD};
+use crate::pairs::PAIRS;
 use plcells::cell::Cell;
 use plcells::heap::Heap;
 use plenv::env::Environment;
@@ -147,33 +147,24 @@ fn first_wrong(alloc: Global, pairs: &[(&str, &str)]) -> Result<Option<usize>, F
     Ok(None)
 }
 
+/// The same of some groups of pairs: the place of the group, and of the pair in it.
+fn first_wrong_of(
+    alloc: Global,
+    groups: &[&[(&str, &str)]],
+) -> Result<Option<(usize, usize)>, Fail> {
+    for (place, pairs) in groups.iter().enumerate() {
+        if let Some(pair) = first_wrong(alloc, pairs)? {
+            return Ok(Some((place, pair)));
+        }
+    }
+    Ok(None)
+}
+
 // Pairs that look random come to what another system makes of them.
 #[test]
-fn first_pairs_by_another_system(rt: HostRuntime) -> Result<(), Fail> {
-    assert_eq!(rt; first_wrong(rt.alloc(), &FIRST)?, None);
-    Ok(())
-}
-
-#[test]
-fn second_pairs_by_another_system(rt: HostRuntime) -> Result<(), Fail> {
-    assert_eq!(rt; first_wrong(rt.alloc(), &SECOND)?, None);
-    Ok(())
-}
-
-#[test]
-fn third_pairs_by_another_system(rt: HostRuntime) -> Result<(), Fail> {
-    assert_eq!(rt; first_wrong(rt.alloc(), &THIRD)?, None);
-    Ok(())
-}
-
-#[test]
-fn fourth_pairs_by_another_system(rt: HostRuntime) -> Result<(), Fail> {
-    assert_eq!(rt; first_wrong(rt.alloc(), &FOURTH)?, None);
-    Ok(())
-}
-
-#[test]
-fn fifth_pairs_by_another_system(rt: HostRuntime) -> Result<(), Fail> {
-    assert_eq!(rt; first_wrong(rt.alloc(), &FIFTH)?, None);
+fn pairs_by_another_system(rt: HostRuntime) -> Result<(), Fail> {
+    for groups in PAIRS {
+        assert_eq!(rt; first_wrong_of(rt.alloc(), groups)?, None);
+    }
     Ok(())
 }

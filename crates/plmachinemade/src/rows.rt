@@ -55,19 +55,36 @@ fn put_other<D: Doing>(
     Ok(())
 }
 
-/// What is made of machines of a program otherwise than rows say.
-fn others_of<D: Doing>(alloc: Global, program: &Program, rows: &[Row<D>]) -> Result<String, Fail> {
-    let mut others = String::new(alloc);
+/// Adds what is made of machines of a program otherwise than rows say.
+fn put_others<D: Doing>(
+    others: &mut String,
+    alloc: Global,
+    program: &Program,
+    rows: &[Row<D>],
+) -> Result<(), Fail> {
     for (doing, text, wanted) in rows {
-        put_other(&mut others, alloc, program, doing, (*text, *wanted))?;
+        put_other(others, alloc, program, doing, (*text, *wanted))?;
+    }
+    Ok(())
+}
+
+/// What is made of machines of a program otherwise than groups of rows say.
+fn others_of<D: Doing>(
+    alloc: Global,
+    program: &Program,
+    groups: &[&[Row<D>]],
+) -> Result<String, Fail> {
+    let mut others = String::new(alloc);
+    for rows in groups {
+        put_others(&mut others, alloc, program, rows)?;
     }
     Ok(others)
 }
 
 /// The same of the program of all machines.
-pub fn others<D: Doing>(alloc: Global, rows: &[Row<D>]) -> Result<String, Fail> {
+pub fn others<D: Doing>(alloc: Global, groups: &[&[Row<D>]]) -> Result<String, Fail> {
     let program = program(alloc)?;
-    others_of(alloc, &program, rows)
+    others_of(alloc, &program, groups)
 }
 
 /// What is made of machines at goals by one thing that is done, otherwise than is said with the goals.

@@ -184,66 +184,87 @@ fn shape_of(alloc: Global, pieces: &str, levels: u64) -> Result<String, Fail> {
 }
 
 /// Pieces, the least number of levels, and the nodes in prefix order.
-const FORMS: [(&str, u64, &str); 41] = [
-    ("a .", 0, "a"),
-    ("'a' .", 0, "a"),
-    ("9223372036854775807 .", 0, "9223372036854775807"),
-    ("- 1 .", 0, "-1"),
-    ("- 0 .", 0, "0"),
-    ("- 9223372036854775808 .", 0, "-9223372036854775808"),
-    ("[ ] .", 0, "[]"),
-    ("{ } .", 0, "{}"),
-    ("\"\" .", 0, "[]"),
-    ("\"aé\" .", 0, "./2 97 ./2 233 []"),
-    ("`é` .", 0, "./2 é []"),
-    ("( a ) .", 1, "a"),
-    ("f ( X , Y , X ) .", 1, "f/3 _0 _1 _0"),
-    ("'[]' ( a ) .", 1, "[]/1 a"),
-    ("- ( 1 ) .", 1, "-/1 1"),
-    ("f ( - ) .", 1, "f/1 -"),
-    ("x ( '-' ) .", 1, "x/1 -"),
-    ("f ( - 1 ) .", 1, "f/1 -1"),
-    ("[ a ] .", 1, "./2 a []"),
-    ("[ a , b ] .", 1, "./2 a ./2 b []"),
-    ("[ a | b ] .", 1, "./2 a b"),
-    ("[ a , b | X ] .", 1, "./2 a ./2 b _0"),
-    ("[ :- | :- ] .", 1, "./2 :- :-"),
-    (
-        "[ [ a ] , [ ] | [ b ] ] .",
-        2,
-        "./2 ./2 a [] ./2 [] ./2 b []",
-    ),
-    ("{ a } .", 1, "{}/1 a"),
-    ("{ a , b } .", 2, "{}/1 ,/2 a b"),
-    ("{ a :- b } .", 2, "{}/1 :-/2 a b"),
-    ("[ ( a :- b ) ] .", 3, "./2 :-/2 a b []"),
-    ("[ { [ a ] } ] .", 3, "./2 {}/1 ./2 a [] []"),
-    (":- a .", 1, ":-/1 a"),
-    (":-  ( a ) .", 2, ":-/1 a"),
-    (":- ( a ) .", 1, ":-/1 a"),
-    (":- [ a ] .", 2, ":-/1 ./2 a []"),
-    (":- \"a\" .", 1, ":-/1 ./2 97 []"),
-    ("a :- b , c .", 2, ":-/2 a ,/2 b c"),
-    ("a ':-' b .", 1, ":-/2 a b"),
-    ("( a ',' b ) .", 2, ",/2 a b"),
-    ("f ( ',' ) .", 1, "f/1 ,"),
-    ("f ( :- , ( a :- b ) ) .", 3, "f/2 :- :-/2 a b"),
-    ("( :- ) .", 1, ":-"),
-    (":- ( a , b ) .", 1, ":-/2 a b"),
+const FORMS: [&[(&str, u64, &str)]; 6] = [
+    &[
+        ("a .", 0, "a"),
+        ("'a' .", 0, "a"),
+        ("9223372036854775807 .", 0, "9223372036854775807"),
+        ("- 1 .", 0, "-1"),
+        ("- 0 .", 0, "0"),
+        ("- 9223372036854775808 .", 0, "-9223372036854775808"),
+        ("[ ] .", 0, "[]"),
+        ("{ } .", 0, "{}"),
+    ],
+    &[
+        ("\"\" .", 0, "[]"),
+        ("\"aé\" .", 0, "./2 97 ./2 233 []"),
+        ("`é` .", 0, "./2 é []"),
+        ("( a ) .", 1, "a"),
+        ("f ( X , Y , X ) .", 1, "f/3 _0 _1 _0"),
+        ("'[]' ( a ) .", 1, "[]/1 a"),
+        ("- ( 1 ) .", 1, "-/1 1"),
+        ("f ( - ) .", 1, "f/1 -"),
+    ],
+    &[
+        ("x ( '-' ) .", 1, "x/1 -"),
+        ("f ( - 1 ) .", 1, "f/1 -1"),
+        ("[ a ] .", 1, "./2 a []"),
+        ("[ a , b ] .", 1, "./2 a ./2 b []"),
+        ("[ a | b ] .", 1, "./2 a b"),
+        ("[ a , b | X ] .", 1, "./2 a ./2 b _0"),
+        ("[ :- | :- ] .", 1, "./2 :- :-"),
+        (
+            "[ [ a ] , [ ] | [ b ] ] .",
+            2,
+            "./2 ./2 a [] ./2 [] ./2 b []",
+        ),
+    ],
+    &[
+        ("{ a } .", 1, "{}/1 a"),
+        ("{ a , b } .", 2, "{}/1 ,/2 a b"),
+        ("{ a :- b } .", 2, "{}/1 :-/2 a b"),
+        ("[ ( a :- b ) ] .", 3, "./2 :-/2 a b []"),
+        ("[ { [ a ] } ] .", 3, "./2 {}/1 ./2 a [] []"),
+        (":- a .", 1, ":-/1 a"),
+        (":-  ( a ) .", 2, ":-/1 a"),
+        (":- ( a ) .", 1, ":-/1 a"),
+    ],
+    &[
+        (":- [ a ] .", 2, ":-/1 ./2 a []"),
+        (":- \"a\" .", 1, ":-/1 ./2 97 []"),
+        ("a :- b , c .", 2, ":-/2 a ,/2 b c"),
+        ("a ':-' b .", 1, ":-/2 a b"),
+        ("( a ',' b ) .", 2, ",/2 a b"),
+        ("f ( ',' ) .", 1, "f/1 ,"),
+        ("f ( :- , ( a :- b ) ) .", 3, "f/2 :- :-/2 a b"),
+        ("( :- ) .", 1, ":-"),
+    ],
+    &[(":- ( a , b ) .", 1, ":-/2 a b")],
 ];
+
+/// Whether a text spells the term of these nodes with so many levels, and none with one level less.
+fn is_form(alloc: Global, pieces: &str, levels: u64, wanted: &str) -> Result<bool, Fail> {
+    if shape_of(alloc, pieces, levels)?.as_str() != wanted {
+        return Ok(false);
+    }
+    Ok(levels == 0 || shape_of(alloc, pieces, levels - 1)?.as_str() == "none")
+}
+
+/// The place of the first row of which that is not so.
+fn first_wrong(alloc: Global, rows: &[(&str, u64, &str)]) -> Result<Option<usize>, Fail> {
+    for (place, (pieces, levels, wanted)) in rows.iter().enumerate() {
+        if !is_form(alloc, pieces, *levels, wanted)? {
+            return Ok(Some(place));
+        }
+    }
+    Ok(None)
+}
 
 // Each form of term, by its nodes in prefix order; the least number of levels; and no term with one level less (6.3).
 #[test]
 fn forms(rt: HostRuntime) -> Result<(), Fail> {
-    let alloc = rt.alloc();
-    for row in FORMS.iter() {
-        let (pieces, levels, wanted) = row;
-        let found = shape_of(alloc, pieces, *levels)?;
-        assert_eq!(rt; found.as_str(), *wanted);
-        if *levels > 0 {
-            let found = shape_of(alloc, pieces, *levels - 1)?;
-            assert_eq!(rt; found.as_str(), "none");
-        }
+    for rows in FORMS {
+        assert_eq!(rt; first_wrong(rt.alloc(), rows)?, None);
     }
     Ok(())
 }

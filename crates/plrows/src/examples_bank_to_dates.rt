@@ -3,11 +3,12 @@ use plhist::Status;
 use plrow::row::{RUN, Row, first_wrong};
 use std::test::Fail;
 
-const EXAMPLES: [Row; 7] = [
-    // bank
-    (
-        RUN,
-        "% A bank, whose accounts are facts. A transfer is a transaction: it is made whole, or nothing of it is left, whether it fails or raises an
+const EXAMPLES: [&[Row]; 3] = [
+    &[
+        // bank
+        (
+            RUN,
+            "% A bank, whose accounts are facts. A transfer is a transaction: it is made whole, or nothing of it is left, whether it fails or raises an
 % error on its way.
 :- dynamic account/2.
 :- dynamic transfer/3.
@@ -59,13 +60,13 @@ main :-
 
 :- initialization(main).
 ",
-        "% thread 1 main: true\npay(ann,ben,30): done\n[ann-70,ben-80,cleo-0]\npay(cleo,ben,5): not enough\n[ann-70,ben-80,cleo-0]\npay(ann,dan,10): no account of dan\n[ann-70,ben-80,cleo-0]\npay_all([pay(ann,cleo,20),pay(cleo,ben,15),pay(cleo,ann,5)]): done\n[ann-55,ben-95,cleo-0]\npay_all([pay(ann,cleo,20),pay(cleo,ben,15),pay(cleo,ann,50)]): not enough\n[ann-55,ben-95,cleo-0]\nrest(ben,6)\n[ann-55,ben-95,cleo-0]\n[pay(ann,ben,30),pay(ann,cleo,20),pay(cleo,ben,15),pay(cleo,ann,5)]\n",
-        Status::Done,
-    ),
-    // blocks
-    (
-        RUN,
-        "% A planner of blocks that tries its moves on the facts themselves, each in a snapshot, so that nothing is left of what it tries. The plan
+            "% thread 1 main: true\npay(ann,ben,30): done\n[ann-70,ben-80,cleo-0]\npay(cleo,ben,5): not enough\n[ann-70,ben-80,cleo-0]\npay(ann,dan,10): no account of dan\n[ann-70,ben-80,cleo-0]\npay_all([pay(ann,cleo,20),pay(cleo,ben,15),pay(cleo,ann,5)]): done\n[ann-55,ben-95,cleo-0]\npay_all([pay(ann,cleo,20),pay(cleo,ben,15),pay(cleo,ann,50)]): not enough\n[ann-55,ben-95,cleo-0]\nrest(ben,6)\n[ann-55,ben-95,cleo-0]\n[pay(ann,ben,30),pay(ann,cleo,20),pay(cleo,ben,15),pay(cleo,ann,5)]\n",
+            Status::Done,
+        ),
+        // blocks
+        (
+            RUN,
+            "% A planner of blocks that tries its moves on the facts themselves, each in a snapshot, so that nothing is left of what it tries. The plan
 % that it finds is carried out in one transaction.
 :- dynamic on/2.
 
@@ -117,13 +118,13 @@ main :-
 
 :- initialization(main).
 ",
-        "% thread 1 main: true\n[a-floor,b-floor,c-a,d-c]\nmove(d,floor)\nmove(c,d)\nmove(b,c)\nmove(a,b)\nnothing was moved yet: [a-floor,b-floor,c-a,d-c]\nno such plan: [a-floor,b-floor,c-a,d-c]\n[a-b,b-c,c-d,d-floor]\n",
-        Status::Done,
-    ),
-    // calculator
-    (
-        RUN,
-        "% Reads sums and products from a text, which is a list of codes, and evaluates them. Each predicate takes a list and
+            "% thread 1 main: true\n[a-floor,b-floor,c-a,d-c]\nmove(d,floor)\nmove(c,d)\nmove(b,c)\nmove(a,b)\nnothing was moved yet: [a-floor,b-floor,c-a,d-c]\nno such plan: [a-floor,b-floor,c-a,d-c]\n[a-b,b-c,c-d,d-floor]\n",
+            Status::Done,
+        ),
+        // calculator
+        (
+            RUN,
+            "% Reads sums and products from a text, which is a list of codes, and evaluates them. Each predicate takes a list and
 % leaves what stands behind the part that it has read.
 expression(E, S, T) :- product(A, S, S1), sums(A, E, S1, T).
 sums(A, E, [0'+|S], T) :- product(B, S, S1), sums(A + B, E, S1, T).
@@ -145,13 +146,15 @@ show(_) :- write('no expression'), nl.
 
 :- initialization((show(\"1+2*3\"), show(\"(1+2)*3\"), show(\"100-20-3\"), show(\"2*(3+4)*5\"), show(\"1+\"))).
 ",
-        "% thread 1 main: true\n1+2*3=7\n(1+2)*3=9\n100-20-3=77\n2*(3+4)*5=70\nno expression\n",
-        Status::Done,
-    ),
-    // chain
-    (
-        RUN,
-        "% A rule base that is worked forward: each rule whose conditions are facts adds its conclusion, until nothing new comes.
+            "% thread 1 main: true\n1+2*3=7\n(1+2)*3=9\n100-20-3=77\n2*(3+4)*5=70\nno expression\n",
+            Status::Done,
+        ),
+    ],
+    &[
+        // chain
+        (
+            RUN,
+            "% A rule base that is worked forward: each rule whose conditions are facts adds its conclusion, until nothing new comes.
 :- dynamic fact/1.
 :- dynamic why/2.
 
@@ -186,23 +189,23 @@ case(Seen) :- observe(Seen), forward, format(\"from ~w:~n\", [Seen]), explain.
 
 :- initialization((case([hair, meat, tawny, stripes]), case([milk, hooves, stripes]), case([feathers, swims]))).
 ",
-        "% thread 1 main: true\nfrom [hair,meat,tawny,stripes]:\nmammal, since [hair]\ncarnivore, since [mammal,meat]\ntiger, since [carnivore,tawny,stripes]\nfrom [milk,hooves,stripes]:\nmammal, since [milk]\nungulate, since [mammal,hooves]\nzebra, since [ungulate,stripes]\nfrom [feathers,swims]:\nbird, since [feathers]\npenguin, since [bird,swims]\n",
-        Status::Done,
-    ),
-    // clauses
-    (
-        RUN,
-        "% A clause that the program adds itself is seen by the next call.
+            "% thread 1 main: true\nfrom [hair,meat,tawny,stripes]:\nmammal, since [hair]\ncarnivore, since [mammal,meat]\ntiger, since [carnivore,tawny,stripes]\nfrom [milk,hooves,stripes]:\nmammal, since [milk]\nungulate, since [mammal,hooves]\nzebra, since [ungulate,stripes]\nfrom [feathers,swims]:\nbird, since [feathers]\npenguin, since [bird,swims]\n",
+            Status::Done,
+        ),
+        // clauses
+        (
+            RUN,
+            "% A clause that the program adds itself is seen by the next call.
 main :- assertz(q(7)), q(X), write(X), nl.
 :- initialization(main).
 ",
-        "% thread 1 main: true\n7\n",
-        Status::Done,
-    ),
-    // control
-    (
-        RUN,
-        "% A search with a cut, an error that is caught, and an end of the run with a status of its own.
+            "% thread 1 main: true\n7\n",
+            Status::Done,
+        ),
+        // control
+        (
+            RUN,
+            "% A search with a cut, an error that is caught, and an end of the run with a status of its own.
 % It writes red, then caught(type_error(callable,(write(never),1))), and ends with status 3.
 colour(green).
 colour(red).
@@ -214,13 +217,15 @@ guarded(G) :- catch(G, error(E, _), (writeq(caught(E)), nl)).
 main :- first_warm(C), write(C), nl, guarded(call((write(never), 1))), halt(3).
 :- initialization(main).
 ",
-        "% thread 1 main: halt(3)\nred\ncaught(type_error(callable,(write(never),1)))\n",
-        Status::Halted(3),
-    ),
-    // dates
-    (
-        RUN,
-        "% Reads dates out of a text by its codes, and writes them as the year, the month and the day.
+            "% thread 1 main: halt(3)\nred\ncaught(type_error(callable,(write(never),1)))\n",
+            Status::Halted(3),
+        ),
+    ],
+    &[
+        // dates
+        (
+            RUN,
+            "% Reads dates out of a text by its codes, and writes them as the year, the month and the day.
 % Each part of the parser takes codes from the front and leaves those behind it.
 date(date(Y, M, D), Cs, Rest) :-
     number(D, Cs, [0' |A]), month(M, A, [0' |B]), number(Y, B, Rest).
@@ -252,9 +257,10 @@ two(N) :- write(N).
 :- initialization((dates(\"It was begun on 1 March 1871, halted on 28 Mai 1871 and on 12 12, and opened on 30 September 1889.\", Ds),
        maplist(show, Ds), length(Ds, N), write(N), write(' dates'), nl)).
 ",
-        "% thread 1 main: true\n1871-03-01\n1889-09-30\n2 dates\n",
-        Status::Done,
-    ),
+            "% thread 1 main: true\n1871-03-01\n1889-09-30\n2 dates\n",
+            Status::Done,
+        ),
+    ],
 ];
 
 #[test]

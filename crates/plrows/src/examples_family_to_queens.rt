@@ -3,11 +3,12 @@ use plhist::Status;
 use plrow::row::{RUN, Row, first_wrong};
 use std::test::Fail;
 
-const EXAMPLES: [Row; 7] = [
-    // family
-    (
-        RUN,
-        "% Facts, rules and a search that backtracks.
+const EXAMPLES: [&[Row]; 3] = [
+    &[
+        // family
+        (
+            RUN,
+            "% Facts, rules and a search that backtracks.
 parent(tom, bob).
 parent(bob, ann).
 parent(bob, pat).
@@ -15,23 +16,23 @@ grandparent(X, Z) :- parent(X, Y), parent(Y, Z).
 main :- grandparent(tom, pat), write(grandparent(tom, pat)), nl.
 :- initialization(main).
 ",
-        "% thread 1 main: true\ngrandparent(tom,pat)\n",
-        Status::Done,
-    ),
-    // hello
-    (
-        RUN,
-        "% Writes one line.
+            "% thread 1 main: true\ngrandparent(tom,pat)\n",
+            Status::Done,
+        ),
+        // hello
+        (
+            RUN,
+            "% Writes one line.
 main :- write(hello), nl.
 :- initialization(main).
 ",
-        "% thread 1 main: true\nhello\n",
-        Status::Done,
-    ),
-    // inventory
-    (
-        RUN,
-        "% What is in store, kept as facts that change: goods come in, go out, and are told.
+            "% thread 1 main: true\nhello\n",
+            Status::Done,
+        ),
+        // inventory
+        (
+            RUN,
+            "% What is in store, kept as facts that change: goods come in, go out, and are told.
 :- dynamic stock/2.
 :- dynamic missed/1.
 
@@ -69,13 +70,15 @@ day :-
 
 :- initialization((day, tell)).
 ",
-        "% thread 1 main: true\nhammers: 20\nsaws: 2\nnails: 500\nmissed: [order(saws,5),order(nails,501)]\n",
-        Status::Done,
-    ),
-    // memo
-    (
-        RUN,
-        "% Fibonacci numbers, each of which is worked out once and then kept as a fact.
+            "% thread 1 main: true\nhammers: 20\nsaws: 2\nnails: 500\nmissed: [order(saws,5),order(nails,501)]\n",
+            Status::Done,
+        ),
+    ],
+    &[
+        // memo
+        (
+            RUN,
+            "% Fibonacci numbers, each of which is worked out once and then kept as a fact.
 :- dynamic known/2.
 
 fib(N, F) :- known(N, F), !.
@@ -89,25 +92,25 @@ show(N) :- fib(N, F), format(\"fib(~d) = ~d~n\", [N, F]).
 
 :- initialization((maplist(show, [10, 50, 90]), findall(N, known(N, _), Kept), length(Kept, Count), format(\"~d are kept~n\", [Count]))).
 ",
-        "% thread 1 main: true\nfib(10) = 55\nfib(50) = 12586269025\nfib(90) = 2880067194370816120\n91 are kept\n",
-        Status::Done,
-    ),
-    // operators
-    (
-        RUN,
-        "% A text may declare operators; terms are read and written by them from there on.
+            "% thread 1 main: true\nfib(10) = 55\nfib(50) = 12586269025\nfib(90) = 2880067194370816120\n91 are kept\n",
+            Status::Done,
+        ),
+        // operators
+        (
+            RUN,
+            "% A text may declare operators; terms are read and written by them from there on.
 :- op(700, xfx, ===>).
 a ===> b.
 rule(X) :- X ===> Y, write(Y), nl.
 :- initialization(rule(a)).
 ",
-        "% thread 1 main: true\nb\n",
-        Status::Done,
-    ),
-    // planner
-    (
-        RUN,
-        "% A planner that searches depth first: a farmer brings a wolf, a goat and a cabbage over a river, in a boat that takes
+            "% thread 1 main: true\nb\n",
+            Status::Done,
+        ),
+        // planner
+        (
+            RUN,
+            "% A planner that searches depth first: a farmer brings a wolf, a goat and a cabbage over a river, in a boat that takes
 % one of them besides himself. A state is state(Farmer, Wolf, Goat, Cabbage), each w(est) or e(ast).
 opposite(w, e).
 opposite(e, w).
@@ -134,13 +137,15 @@ steps([Load|Plan], N) :- write(N), write(': '), write(Load), nl, M is N + 1, ste
 main :- Start = state(w, w, w, w), plan(Start, state(e, e, e, e), [Start], Plan), steps(Plan, 1).
 :- initialization(main).
 ",
-        "% thread 1 main: true\n1: goat\n2: nothing\n3: wolf\n4: goat\n5: cabbage\n6: nothing\n7: goat\n",
-        Status::Done,
-    ),
-    // queens
-    (
-        RUN,
-        "% Places queens on a board, one a column, so that none attacks another.
+            "% thread 1 main: true\n1: goat\n2: nothing\n3: wolf\n4: goat\n5: cabbage\n6: nothing\n7: goat\n",
+            Status::Done,
+        ),
+    ],
+    &[
+        // queens
+        (
+            RUN,
+            "% Places queens on a board, one a column, so that none attacks another.
 numbers(N, N, [N]) :- !.
 numbers(I, N, [I|Is]) :- I < N, J is I + 1, numbers(J, N, Is).
 
@@ -157,9 +162,10 @@ row(N, Q) :- forall(between(1, N, C), (C =:= Q -> write(' Q') ; write(' .'))), n
 main :- queens(6, Qs), write(Qs), nl, length(Qs, N), forall(member(Q, Qs), row(N, Q)).
 :- initialization(main).
 ",
-        "% thread 1 main: true\n[5,3,1,6,4,2]\n . . . . Q .\n . . Q . . .\n Q . . . . .\n . . . . . Q\n . . . Q . .\n . Q . . . .\n",
-        Status::Done,
-    ),
+            "% thread 1 main: true\n[5,3,1,6,4,2]\n . . . . Q .\n . . Q . . .\n Q . . . . .\n . . . . . Q\n . . . Q . .\n . Q . . . .\n",
+            Status::Done,
+        ),
+    ],
 ];
 
 #[test]

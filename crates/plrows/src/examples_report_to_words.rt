@@ -3,11 +3,12 @@ use plhist::Status;
 use plrow::row::{RUN, Row, first_wrong};
 use std::test::Fail;
 
-const EXAMPLES: [Row; 7] = [
-    // report
-    (
-        RUN,
-        "% A report of what is in store: a line for each item by format/2, in columns, and a sum behind them.
+const EXAMPLES: [&[Row]; 3] = [
+    &[
+        // report
+        (
+            RUN,
+            "% A report of what is in store: a line for each item by format/2, in columns, and a sum behind them.
 stock([item(nails, 1200, 2), item(hammers, 14, 950), item('long ladders', 3, 12400), item(screws, 880, 3)]).
 
 report :-
@@ -33,13 +34,13 @@ worth([item(_, Count, Each)|Items], I, Sum) :- J is I + Count * Each, worth(Item
 
 :- initialization(report).
 ",
-        "% thread 1 main: true\nwhat            count    each     all\nnails            1200       2    2400\nhammers            14     950   13300\nlong ladders        3   12400   37200\nscrews            880       3    2640\n4 kinds, worth 55540: sum(55540)\n",
-        Status::Done,
-    ),
-    // simplify
-    (
-        RUN,
-        "% Simplifies expressions: what does not depend on a variable is evaluated, and what adds or multiplies nothing goes.
+            "% thread 1 main: true\nwhat            count    each     all\nnails            1200       2    2400\nhammers            14     950   13300\nlong ladders        3   12400   37200\nscrews            880       3    2640\n4 kinds, worth 55540: sum(55540)\n",
+            Status::Done,
+        ),
+        // simplify
+        (
+            RUN,
+            "% Simplifies expressions: what does not depend on a variable is evaluated, and what adds or multiplies nothing goes.
 simplify(E, E) :- atomic(E), !.
 simplify(E, S) :- parts(E, F, A, B), simplify(A, X), simplify(B, Y), parts(G, F, X, Y), rule(G, S), !.
 
@@ -62,13 +63,13 @@ show(E) :- simplify(E, S), writeq(E), write(' = '), writeq(S), nl.
 
 :- initialization((show(x + 0), show(2 * 3 + y), show((x - x) * (4 + z)), show(1 * (a + (3 - 3))), show(2 * (3 + 4)))).
 ",
-        "% thread 1 main: true\nx+0 = x\n2*3+y = 6+y\n(x-x)*(4+z) = 0\n1*(a+(3-3)) = a\n2*(3+4) = 14\n",
-        Status::Done,
-    ),
-    // terms
-    (
-        RUN,
-        "% Takes terms apart and makes others of them: what stands in a term, a term with its arguments turned round, and its depth.
+            "% thread 1 main: true\nx+0 = x\n2*3+y = 6+y\n(x-x)*(4+z) = 0\n1*(a+(3-3)) = a\n2*(3+4) = 14\n",
+            Status::Done,
+        ),
+        // terms
+        (
+            RUN,
+            "% Takes terms apart and makes others of them: what stands in a term, a term with its arguments turned round, and its depth.
 turned(T, T) :- atomic(T), !.
 turned(T, T) :- var(T), !.
 turned(T, U) :- T =.. [F|As], maplist(turned, As, Bs), reverse(Bs, Cs), U =.. [F|Cs].
@@ -85,13 +86,15 @@ show(T) :-
 
 :- initialization((show(f(a, b)), show(f(X, g(_, 1), X)), show([1, 2, 3]), show(a + b * c), show(42), show(_))).
 ",
-        "% thread 1 main: true\nf(a,b) turned f(b,a) depth 1 variables 0\nf(_1,g(_2,1),_1) turned f(_1,g(1,_2),_1) depth 2 variables 2\n[1,2,3] turned [[[[]|3]|2]|1] depth 3 variables 0\na+b*c turned c*b+a depth 2 variables 0\n42 turned 42 depth 0 variables 0\n_1 turned _1 depth 0 variables 1\n",
-        Status::Done,
-    ),
-    // undo
-    (
-        RUN,
-        "% A store of values with an undo log. Each change and what undoes it are made in one transaction, so that the log fits the store whatever
+            "% thread 1 main: true\nf(a,b) turned f(b,a) depth 1 variables 0\nf(_1,g(_2,1),_1) turned f(_1,g(1,_2),_1) depth 2 variables 2\n[1,2,3] turned [[[[]|3]|2]|1] depth 3 variables 0\na+b*c turned c*b+a depth 2 variables 0\n42 turned 42 depth 0 variables 0\n_1 turned _1 depth 0 variables 1\n",
+            Status::Done,
+        ),
+    ],
+    &[
+        // undo
+        (
+            RUN,
+            "% A store of values with an undo log. Each change and what undoes it are made in one transaction, so that the log fits the store whatever
 % happens.
 :- dynamic value/2.
 :- dynamic undone_by/1.
@@ -144,22 +147,22 @@ main :-
 
 :- initialization(main).
 ",
-        "% thread 1 main: true\ndo(set(x,3))  [x=3], entries: 1\ndo(set(y,4))  [x=3,y=4], entries: 2\ndo(add(x,2))  [x=5,y=4], entries: 3\ndo(set(z,7)) fails  [x=5,y=4], entries: 3\ndo(add(y,w)) raises type_error(evaluable,w/0)  [x=5,y=4], entries: 3\ndo(drop(w)) fails  [x=5,y=4], entries: 3\ndo(all([drop(x),set(z,6),add(y,-1)]))  [y=3,z=6], entries: 4\ndo(all([drop(z),drop(z)])) fails  [y=3,z=6], entries: 4\nundo  [x=5,y=4], entries: 3\nundo(2)  [x=3], entries: 1\nundo(2) fails  [x=3], entries: 1\nundo  [], entries: 0\n",
-        Status::Done,
-    ),
-    // unknown
-    (
-        RUN,
-        "% A call of a procedure that nothing defines raises an existence error: the run ends with status 2.
+            "% thread 1 main: true\ndo(set(x,3))  [x=3], entries: 1\ndo(set(y,4))  [x=3,y=4], entries: 2\ndo(add(x,2))  [x=5,y=4], entries: 3\ndo(set(z,7)) fails  [x=5,y=4], entries: 3\ndo(add(y,w)) raises type_error(evaluable,w/0)  [x=5,y=4], entries: 3\ndo(drop(w)) fails  [x=5,y=4], entries: 3\ndo(all([drop(x),set(z,6),add(y,-1)]))  [y=3,z=6], entries: 4\ndo(all([drop(z),drop(z)])) fails  [y=3,z=6], entries: 4\nundo  [x=5,y=4], entries: 3\nundo(2)  [x=3], entries: 1\nundo(2) fails  [x=3], entries: 1\nundo  [], entries: 0\n",
+            Status::Done,
+        ),
+        // unknown
+        (
+            RUN,
+            "% A call of a procedure that nothing defines raises an existence error: the run ends with status 2.
 :- initialization(q).
 ",
-        "% thread 1 main: exception(error(existence_error(procedure,q/0),q/0))\n",
-        Status::Raised,
-    ),
-    // view
-    (
-        RUN,
-        "% A call keeps the clauses that were alive when it began (the logical update view).
+            "% thread 1 main: exception(error(existence_error(procedure,q/0),q/0))\n",
+            Status::Raised,
+        ),
+        // view
+        (
+            RUN,
+            "% A call keeps the clauses that were alive when it began (the logical update view).
 % Each answer of p(X) adds a clause and then fails, yet the walk writes 1 and 2 alone;
 % the call behind it sees the added ones too, so it writes 1, 2, 3 and 3.
 main :- assertz(p(1)), assertz(p(2)), growing, standing.
@@ -170,13 +173,15 @@ standing.
 never(none).
 :- initialization(main).
 ",
-        "% thread 1 main: true\n1\n2\n1\n2\n3\n3\n",
-        Status::Done,
-    ),
-    // words
-    (
-        RUN,
-        "% Counts the words of a text, and writes them with how often they come, the most frequent first.
+            "% thread 1 main: true\n1\n2\n1\n2\n3\n3\n",
+            Status::Done,
+        ),
+    ],
+    &[
+        // words
+        (
+            RUN,
+            "% Counts the words of a text, and writes them with how often they come, the most frequent first.
 words(Text, Words) :- atom_codes(Text, Codes), split(Codes, [], Words).
 
 % The letters of a word are gathered from the front, so the last one stands first.
@@ -204,9 +209,10 @@ line(W, Key) :- N is -Key, atom_length(W, L), write(W), tab(10 - L), writeln(N).
 
 :- initialization(report('the cat sat on the mat, and the dog sat by the door')).
 ",
-        "% thread 1 main: true\nthe       4\nsat       2\nand       1\nby        1\ncat       1\ndog       1\ndoor      1\nmat       1\non        1\n",
-        Status::Done,
-    ),
+            "% thread 1 main: true\nthe       4\nsat       2\nand       1\nby        1\ncat       1\ndog       1\ndoor      1\nmat       1\non        1\n",
+            Status::Done,
+        ),
+    ],
 ];
 
 #[test]

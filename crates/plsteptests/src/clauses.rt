@@ -184,116 +184,122 @@ impl Doing for Call {
 }
 
 /// Calls, goals, and what the calls make of a machine, as those of control.
-const ROWS: [Row<Call>; 25] = [
-    (
-        Call::Add(Side::Back),
-        "assertz((d(X) :- q, X))",
-        "asks publish last d(_1):-q,call(_1); z@0 | plain 1 none 0",
-    ),
-    (
-        Call::Add(Side::Front),
-        "asserta(e)",
-        "asks publish first e:-true; z@0 | plain 1 none 0",
-    ),
-    (
-        Call::Add(Side::Front),
-        "asserta(p(3))",
-        "throws error(permission_error(modify,static_procedure,p/1),asserta/1) | plain 1 none 0",
-    ),
-    (
-        Call::Add(Side::Back),
-        "assertz((e :- a, 1))",
-        "throws error(type_error(callable,(a,1)),assertz/1) | plain 1 none 0",
-    ),
-    (
-        Call::Add(Side::Back),
-        "assertz((X :- a))",
-        "throws error(instantiation_error,assertz/1) | plain 1 none 0",
-    ),
-    (
-        Call::Retrieve,
-        "clause(d(X), Y)",
-        "asks retrieve z@0 | plain 1 none 0",
-    ),
-    (
-        Call::Retrieve,
-        "clause(p(X), Y)",
-        "fails | walk 2 tell p(_1):-_2",
-    ),
-    (
-        Call::Retrieve,
-        "clause(X, Y)",
-        "throws error(instantiation_error,clause/2) | plain 1 none 0",
-    ),
-    (
-        Call::Retrieve,
-        "clause(d(X), 1)",
-        "throws error(type_error(callable,1),clause/2) | plain 1 none 0",
-    ),
-    (
-        Call::Retrieve,
-        "clause(nl, X)",
-        "throws error(permission_error(access,private_procedure,nl/0),clause/2) | plain 1 none 0",
-    ),
-    (
-        Call::Retract,
-        "retract((d(X) :- q))",
-        "asks retract z@0 | plain 1 none 0",
-    ),
-    (
-        Call::Retract,
-        "retract(p(1))",
-        "throws error(permission_error(modify,static_procedure,p/1),retract/1) | plain 1 none 0",
-    ),
-    (
-        Call::RetractAll,
-        "retractall(d(X))",
-        "asks retract all z@0 | plain 1 none 0",
-    ),
-    (
-        Call::RetractAll,
-        "retractall(1)",
-        "throws error(type_error(callable,1),retractall/1) | plain 1 none 0",
-    ),
-    (
-        Call::Declare,
-        "dynamic([e/1, f/0])",
-        "asks publish declare e/1; declare f/0; z@0 | plain 1 none 0",
-    ),
-    (Call::Declare, "dynamic([])", "visits z@0 | plain 1 none 0"),
-    (
-        Call::Declare,
-        "dynamic((e/1, p/1))",
-        "throws error(permission_error(modify,static_procedure,p/1),(dynamic)/1) | plain 1 none 0",
-    ),
-    (
-        Call::Declare,
-        "dynamic(e)",
-        "throws error(type_error(predicate_indicator,e),(dynamic)/1) | plain 1 none 0",
-    ),
-    (Call::Publish(0), "g", "visits z@0 | plain 1 none 0"),
-    (
-        Call::Publish(2),
-        "g",
-        "asks publish declare foo/0; declare foo/1; z@0 | plain 1 none 0",
-    ),
-    (
-        Call::PublishOne,
-        "g",
-        "asks publish declare foo/5; z@0 | plain 1 none 0",
-    ),
-    (Call::Erase, "g", "asks erase 2.1 z@0 | plain 1 none 0"),
-    (Call::Walk, "p(X)", "fails | walk 2 call p(_1)"),
-    (
-        Call::Tell(Use::Erase),
-        "g(p(X), (q, X))",
-        "fails | walk 2 erase p(_1):-q,_1",
-    ),
-    (
+const ROWS: [&[Row<Call>]; 4] = [
+    &[
+        (
+            Call::Add(Side::Back),
+            "assertz((d(X) :- q, X))",
+            "asks publish last d(_1):-q,call(_1); z@0 | plain 1 none 0",
+        ),
+        (
+            Call::Add(Side::Front),
+            "asserta(e)",
+            "asks publish first e:-true; z@0 | plain 1 none 0",
+        ),
+        (
+            Call::Add(Side::Front),
+            "asserta(p(3))",
+            "throws error(permission_error(modify,static_procedure,p/1),asserta/1) | plain 1 none 0",
+        ),
+        (
+            Call::Add(Side::Back),
+            "assertz((e :- a, 1))",
+            "throws error(type_error(callable,(a,1)),assertz/1) | plain 1 none 0",
+        ),
+        (
+            Call::Add(Side::Back),
+            "assertz((X :- a))",
+            "throws error(instantiation_error,assertz/1) | plain 1 none 0",
+        ),
+        (
+            Call::Retrieve,
+            "clause(d(X), Y)",
+            "asks retrieve z@0 | plain 1 none 0",
+        ),
+        (
+            Call::Retrieve,
+            "clause(p(X), Y)",
+            "fails | walk 2 tell p(_1):-_2",
+        ),
+        (
+            Call::Retrieve,
+            "clause(X, Y)",
+            "throws error(instantiation_error,clause/2) | plain 1 none 0",
+        ),
+    ],
+    &[
+        (
+            Call::Retrieve,
+            "clause(d(X), 1)",
+            "throws error(type_error(callable,1),clause/2) | plain 1 none 0",
+        ),
+        (
+            Call::Retrieve,
+            "clause(nl, X)",
+            "throws error(permission_error(access,private_procedure,nl/0),clause/2) | plain 1 none 0",
+        ),
+        (
+            Call::Retract,
+            "retract((d(X) :- q))",
+            "asks retract z@0 | plain 1 none 0",
+        ),
+        (
+            Call::Retract,
+            "retract(p(1))",
+            "throws error(permission_error(modify,static_procedure,p/1),retract/1) | plain 1 none 0",
+        ),
+        (
+            Call::RetractAll,
+            "retractall(d(X))",
+            "asks retract all z@0 | plain 1 none 0",
+        ),
+        (
+            Call::RetractAll,
+            "retractall(1)",
+            "throws error(type_error(callable,1),retractall/1) | plain 1 none 0",
+        ),
+        (
+            Call::Declare,
+            "dynamic([e/1, f/0])",
+            "asks publish declare e/1; declare f/0; z@0 | plain 1 none 0",
+        ),
+        (Call::Declare, "dynamic([])", "visits z@0 | plain 1 none 0"),
+    ],
+    &[
+        (
+            Call::Declare,
+            "dynamic((e/1, p/1))",
+            "throws error(permission_error(modify,static_procedure,p/1),(dynamic)/1) | plain 1 none 0",
+        ),
+        (
+            Call::Declare,
+            "dynamic(e)",
+            "throws error(type_error(predicate_indicator,e),(dynamic)/1) | plain 1 none 0",
+        ),
+        (Call::Publish(0), "g", "visits z@0 | plain 1 none 0"),
+        (
+            Call::Publish(2),
+            "g",
+            "asks publish declare foo/0; declare foo/1; z@0 | plain 1 none 0",
+        ),
+        (
+            Call::PublishOne,
+            "g",
+            "asks publish declare foo/5; z@0 | plain 1 none 0",
+        ),
+        (Call::Erase, "g", "asks erase 2.1 z@0 | plain 1 none 0"),
+        (Call::Walk, "p(X)", "fails | walk 2 call p(_1)"),
+        (
+            Call::Tell(Use::Erase),
+            "g(p(X), (q, X))",
+            "fails | walk 2 erase p(_1):-q,_1",
+        ),
+    ],
+    &[(
         Call::DeclareOne,
         "g",
         "asks publish declare foo/2; z@0 | plain 1 none 0",
-    ),
+    )],
 ];
 
 #[test]

@@ -142,40 +142,44 @@ impl Doing for Call {
 /// Calls, goals whose arguments they take, and what they make of a machine that visits z behind the goal, in a choice at the level 0: the goals
 /// and markers with their levels, the innermost case and the one behind choices with nothing left, with how many cases there are, and what a branch
 /// comes back to. A condition has a level of its own, above the choice of what is done for want of it.
-const ROWS: [Row<Call>; 13] = [
-    (Call::GoOn, "g(a)", "visits a@0 z@0 | plain 1 none 0"),
-    (Call::Give, "g", "halted 3 | plain 1 none 0"),
-    (
-        Call::Raise,
-        "g(f(X, Y))",
-        "throws error(f(_1,_2),foo/2) | plain 1 none 0",
-    ),
-    (Call::Ask, "g", "asks halt 3 z@0 | plain 1 none 0"),
-    (Call::Enter, "g", "visits z@0 | plain 2 none 0"),
-    (Call::Both, "g(a, b)", "visits a@0 b@0 z@0 | plain 1 none 0"),
-    (Call::Either, "g(a, b)", "visits a@0 z@0 | branch 2 b@0 z@0"),
-    (
-        Call::Then,
-        "g(a, b)",
-        "visits a@2 commit@1 b@0 z@0 | plain 3 branch 2 *goal@0 z@0",
-    ),
-    (
-        Call::ThenElse,
-        "g(a, b, c)",
-        "visits a@2 commit@1 b@0 z@0 | plain 3 branch 2 c@0 z@0",
-    ),
-    (Call::Cut, "g", "visits z@0 | plain 3 none 0"),
-    (
-        Call::Throw,
-        "g(f(X, a))",
-        "throws f(_1,a) 0 | plain 1 none 0",
-    ),
-    (
-        Call::Throw,
-        "g(X)",
-        "throws error(instantiation_error,throw/1) 0 | plain 1 none 0",
-    ),
-    (Call::Throw, "g(7)", "throws 7 0 | plain 1 none 0"),
+const ROWS: [&[Row<Call>]; 2] = [
+    &[
+        (Call::GoOn, "g(a)", "visits a@0 z@0 | plain 1 none 0"),
+        (Call::Give, "g", "halted 3 | plain 1 none 0"),
+        (
+            Call::Raise,
+            "g(f(X, Y))",
+            "throws error(f(_1,_2),foo/2) | plain 1 none 0",
+        ),
+        (Call::Ask, "g", "asks halt 3 z@0 | plain 1 none 0"),
+        (Call::Enter, "g", "visits z@0 | plain 2 none 0"),
+        (Call::Both, "g(a, b)", "visits a@0 b@0 z@0 | plain 1 none 0"),
+        (Call::Either, "g(a, b)", "visits a@0 z@0 | branch 2 b@0 z@0"),
+        (
+            Call::Then,
+            "g(a, b)",
+            "visits a@2 commit@1 b@0 z@0 | plain 3 branch 2 *goal@0 z@0",
+        ),
+    ],
+    &[
+        (
+            Call::ThenElse,
+            "g(a, b, c)",
+            "visits a@2 commit@1 b@0 z@0 | plain 3 branch 2 c@0 z@0",
+        ),
+        (Call::Cut, "g", "visits z@0 | plain 3 none 0"),
+        (
+            Call::Throw,
+            "g(f(X, a))",
+            "throws f(_1,a) 0 | plain 1 none 0",
+        ),
+        (
+            Call::Throw,
+            "g(X)",
+            "throws error(instantiation_error,throw/1) 0 | plain 1 none 0",
+        ),
+        (Call::Throw, "g(7)", "throws 7 0 | plain 1 none 0"),
+    ],
 ];
 
 #[test]

@@ -181,47 +181,51 @@ const GOALS: [(&str, &str); 32] = [
 ];
 
 /// Ways to select a goal, goals, and what they make of a machine.
-const ROWS: [Row<Call>; 12] = [
-    (
-        Call::Step,
-        "r(or)",
-        "visits *goal@1 z@0 | branch 3 *goal@1 z@0",
-    ),
-    (
-        Call::Step,
-        "r(then)",
-        "visits *goal@3 commit@2 *goal@1 z@0 | plain 4 branch 3 *goal@1 z@0",
-    ),
-    (
-        Call::Step,
-        "r(else)",
-        "visits *goal@3 commit@2 *goal@1 z@0 | plain 4 branch 3 *goal@1 z@0",
-    ),
-    (
-        Call::Step,
-        "r(both)",
-        "visits *goal@1 z@0 | plain 3 clauses 2",
-    ),
-    (Call::Step, "r(x)", "visits *goal@1 z@0 | plain 2 none 0"),
-    (Call::Step, "r(y)", "fails | plain 2 none 0"),
-    (Call::BuiltIn, "f(X, a) = f(b, X)", "fails | plain 1 none 0"),
-    (Call::BuiltIn, "X = f(X)", "fails | plain 1 none 0"),
-    (Call::BuiltIn, "X is 6 * 7", "visits z@0 | plain 1 none 0"),
-    (
-        Call::BuiltIn,
-        "X is 1 + a",
-        "throws error(type_error(evaluable,a/0),(is)/2) | plain 1 none 0",
-    ),
-    (
-        Call::BuiltIn,
-        "sub_atom(ab, X, 1, Y, Z)",
-        "visits z@0 | answers 2",
-    ),
-    (
-        Call::BuiltIn,
-        "writeq('A b')",
-        "visits z@0 | plain 1 none 0'A b'",
-    ),
+const ROWS: [&[Row<Call>]; 2] = [
+    &[
+        (
+            Call::Step,
+            "r(or)",
+            "visits *goal@1 z@0 | branch 3 *goal@1 z@0",
+        ),
+        (
+            Call::Step,
+            "r(then)",
+            "visits *goal@3 commit@2 *goal@1 z@0 | plain 4 branch 3 *goal@1 z@0",
+        ),
+        (
+            Call::Step,
+            "r(else)",
+            "visits *goal@3 commit@2 *goal@1 z@0 | plain 4 branch 3 *goal@1 z@0",
+        ),
+        (
+            Call::Step,
+            "r(both)",
+            "visits *goal@1 z@0 | plain 3 clauses 2",
+        ),
+        (Call::Step, "r(x)", "visits *goal@1 z@0 | plain 2 none 0"),
+        (Call::Step, "r(y)", "fails | plain 2 none 0"),
+        (Call::BuiltIn, "f(X, a) = f(b, X)", "fails | plain 1 none 0"),
+        (Call::BuiltIn, "X = f(X)", "fails | plain 1 none 0"),
+    ],
+    &[
+        (Call::BuiltIn, "X is 6 * 7", "visits z@0 | plain 1 none 0"),
+        (
+            Call::BuiltIn,
+            "X is 1 + a",
+            "throws error(type_error(evaluable,a/0),(is)/2) | plain 1 none 0",
+        ),
+        (
+            Call::BuiltIn,
+            "sub_atom(ab, X, 1, Y, Z)",
+            "visits z@0 | answers 2",
+        ),
+        (
+            Call::BuiltIn,
+            "writeq('A b')",
+            "visits z@0 | plain 1 none 0'A b'",
+        ),
+    ],
 ];
 
 #[test]

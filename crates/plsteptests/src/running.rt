@@ -230,139 +230,147 @@ impl Doing for Call {
 
 /// Calls, goals whose arguments they take, and what they make of a machine, as those of control. A goal that is run has a level of its own, above
 /// the cases that its construct opens, and an error is thrown inside of these.
-const ROWS: [Row<Call>; 32] = [
-    (
-        Call::Once,
-        "g((a, X))",
-        "visits a,call(_1)@1 commit@1 z@0 | plain 2 none 0",
-    ),
-    (
-        Call::Once,
-        "g(X)",
-        "throws error(instantiation_error,once/1) 1 | plain 2 none 0",
-    ),
-    (
-        Call::Not,
-        "g(a)",
-        "visits a@2 never@1 z@0 | plain 3 branch 2 z@0",
-    ),
-    (
-        Call::Not,
-        "g((a, 1))",
-        "throws error(type_error(callable,(a,1)),(\\+)/1) 1 | plain 3 branch 2 z@0",
-    ),
-    (
-        Call::Catching,
-        "g(a, X, b)",
-        "visits a@2 until@1 z@0 | plain 3 catcher 2",
-    ),
-    (
-        Call::Catching,
-        "g(1, X, b)",
-        "throws error(type_error(callable,1),catch/3) 1 | plain 3 catcher 2",
-    ),
-    (Call::CallWith, "g(a)", "visits a@1 z@0 | plain 2 none 0"),
-    (
-        Call::CallWith,
-        "g(f(X), b, X)",
-        "visits f(_1,b,_1)@1 z@0 | plain 2 none 0",
-    ),
-    (
-        Call::CallWith,
-        "g(X, a)",
-        "throws error(instantiation_error,call/2) | plain 2 none 0",
-    ),
-    (
-        Call::CallWith,
-        "g(1, a, b)",
-        "throws error(type_error(callable,1),call/3) | plain 2 none 0",
-    ),
-    (
-        Call::FindAll,
-        "g(f(X), p(X), Y)",
-        "visits p(_1)@2 collect(f(_1))@1 z@0 | plain 3 gatherer 2",
-    ),
-    (
-        Call::FindAll,
-        "g(X, p(X), [a|b])",
-        "throws error(type_error(list,[a|b]),findall/3) | plain 1 none 0",
-    ),
-    (
-        Call::FindAll,
-        "g(X, Y, [])",
-        "throws error(instantiation_error,findall/3) 1 | plain 3 gatherer 2",
-    ),
-    (
-        Call::Transaction,
-        "g(a)",
-        "asks transaction z@0 | plain 1 none 0",
-    ),
-    (Call::Snapshot, "g(X)", "asks snapshot z@0 | plain 1 none 0"),
-    (
-        Call::BeginAt,
-        "g(a)",
-        "visits a@3 transact(1)@2 | plain 4 undo 3 open",
-    ),
-    (
-        Call::BeginAt,
-        "g(X)",
-        "throws error(instantiation_error,transaction/1) 2 | plain 4 undo 3 open",
-    ),
-    (Call::Halt, "g", "asks halt 7 z@0 | plain 1 none 0"),
-    (Call::HaltWith, "g(260)", "asks halt 4 z@0 | plain 1 none 0"),
-    (
-        Call::HaltWith,
-        "g(-1)",
-        "asks halt 255 z@0 | plain 1 none 0",
-    ),
-    (
-        Call::HaltWith,
-        "g(X)",
-        "throws error(instantiation_error,halt/1) | plain 1 none 0",
-    ),
-    (
-        Call::HaltWith,
-        "g(a)",
-        "throws error(type_error(integer,a),halt/1) | plain 1 none 0",
-    ),
-    (Call::Run, "g(f(X))", "visits f(_1)@1 z@0 | plain 2 none 0"),
-    (
-        Call::RunError,
-        "g(f(X))",
-        "throws error(f(_1),halt/1) | plain 2 none 0",
-    ),
-    (Call::Ready, "g(a)", "visits a@0 z@0 | plain 1 none 0"),
-    (
-        Call::Ready,
-        "g((X ; f(Y), Y))",
-        "visits call(_1);f(_2),call(_2)@0 z@0 | plain 1 none 0",
-    ),
-    (
-        Call::Ready,
-        "g(X)",
-        "throws error(instantiation_error,foo/2) | plain 1 none 0",
-    ),
-    (
-        Call::Ready,
-        "g((a -> 7))",
-        "throws error(type_error(callable,(a->7)),foo/2) | plain 1 none 0",
-    ),
-    (
-        Call::Gather(1),
-        "g(f(X, X), Y)",
-        "visits g(f(_1,_1),[f(_2,_2),f(_3,_3),f(_4,_4)])@0 z@0 | plain 1 none 0",
-    ),
-    (
-        Call::Gather(2),
-        "g(f(X), [Y|Z])",
-        "visits g(f(_1),[f(_2),f(_3)])@0 z@0 | plain 1 none 0",
-    ),
-    (
-        Call::Gather(3),
-        "g(a, X)",
-        "visits g(a,[])@0 z@0 | plain 1 none 0",
-    ),
-    (Call::Gather(1), "g(a, [X])", "fails | plain 1 none 0"),
+const ROWS: [&[Row<Call>]; 4] = [
+    &[
+        (
+            Call::Once,
+            "g((a, X))",
+            "visits a,call(_1)@1 commit@1 z@0 | plain 2 none 0",
+        ),
+        (
+            Call::Once,
+            "g(X)",
+            "throws error(instantiation_error,once/1) 1 | plain 2 none 0",
+        ),
+        (
+            Call::Not,
+            "g(a)",
+            "visits a@2 never@1 z@0 | plain 3 branch 2 z@0",
+        ),
+        (
+            Call::Not,
+            "g((a, 1))",
+            "throws error(type_error(callable,(a,1)),(\\+)/1) 1 | plain 3 branch 2 z@0",
+        ),
+        (
+            Call::Catching,
+            "g(a, X, b)",
+            "visits a@2 until@1 z@0 | plain 3 catcher 2",
+        ),
+        (
+            Call::Catching,
+            "g(1, X, b)",
+            "throws error(type_error(callable,1),catch/3) 1 | plain 3 catcher 2",
+        ),
+        (Call::CallWith, "g(a)", "visits a@1 z@0 | plain 2 none 0"),
+        (
+            Call::CallWith,
+            "g(f(X), b, X)",
+            "visits f(_1,b,_1)@1 z@0 | plain 2 none 0",
+        ),
+    ],
+    &[
+        (
+            Call::CallWith,
+            "g(X, a)",
+            "throws error(instantiation_error,call/2) | plain 2 none 0",
+        ),
+        (
+            Call::CallWith,
+            "g(1, a, b)",
+            "throws error(type_error(callable,1),call/3) | plain 2 none 0",
+        ),
+        (
+            Call::FindAll,
+            "g(f(X), p(X), Y)",
+            "visits p(_1)@2 collect(f(_1))@1 z@0 | plain 3 gatherer 2",
+        ),
+        (
+            Call::FindAll,
+            "g(X, p(X), [a|b])",
+            "throws error(type_error(list,[a|b]),findall/3) | plain 1 none 0",
+        ),
+        (
+            Call::FindAll,
+            "g(X, Y, [])",
+            "throws error(instantiation_error,findall/3) 1 | plain 3 gatherer 2",
+        ),
+        (
+            Call::Transaction,
+            "g(a)",
+            "asks transaction z@0 | plain 1 none 0",
+        ),
+        (Call::Snapshot, "g(X)", "asks snapshot z@0 | plain 1 none 0"),
+        (
+            Call::BeginAt,
+            "g(a)",
+            "visits a@3 transact(1)@2 | plain 4 undo 3 open",
+        ),
+    ],
+    &[
+        (
+            Call::BeginAt,
+            "g(X)",
+            "throws error(instantiation_error,transaction/1) 2 | plain 4 undo 3 open",
+        ),
+        (Call::Halt, "g", "asks halt 7 z@0 | plain 1 none 0"),
+        (Call::HaltWith, "g(260)", "asks halt 4 z@0 | plain 1 none 0"),
+        (
+            Call::HaltWith,
+            "g(-1)",
+            "asks halt 255 z@0 | plain 1 none 0",
+        ),
+        (
+            Call::HaltWith,
+            "g(X)",
+            "throws error(instantiation_error,halt/1) | plain 1 none 0",
+        ),
+        (
+            Call::HaltWith,
+            "g(a)",
+            "throws error(type_error(integer,a),halt/1) | plain 1 none 0",
+        ),
+        (Call::Run, "g(f(X))", "visits f(_1)@1 z@0 | plain 2 none 0"),
+        (
+            Call::RunError,
+            "g(f(X))",
+            "throws error(f(_1),halt/1) | plain 2 none 0",
+        ),
+    ],
+    &[
+        (Call::Ready, "g(a)", "visits a@0 z@0 | plain 1 none 0"),
+        (
+            Call::Ready,
+            "g((X ; f(Y), Y))",
+            "visits call(_1);f(_2),call(_2)@0 z@0 | plain 1 none 0",
+        ),
+        (
+            Call::Ready,
+            "g(X)",
+            "throws error(instantiation_error,foo/2) | plain 1 none 0",
+        ),
+        (
+            Call::Ready,
+            "g((a -> 7))",
+            "throws error(type_error(callable,(a->7)),foo/2) | plain 1 none 0",
+        ),
+        (
+            Call::Gather(1),
+            "g(f(X, X), Y)",
+            "visits g(f(_1,_1),[f(_2,_2),f(_3,_3),f(_4,_4)])@0 z@0 | plain 1 none 0",
+        ),
+        (
+            Call::Gather(2),
+            "g(f(X), [Y|Z])",
+            "visits g(f(_1),[f(_2),f(_3)])@0 z@0 | plain 1 none 0",
+        ),
+        (
+            Call::Gather(3),
+            "g(a, X)",
+            "visits g(a,[])@0 z@0 | plain 1 none 0",
+        ),
+        (Call::Gather(1), "g(a, [X])", "fails | plain 1 none 0"),
+    ],
 ];
 
 #[test]

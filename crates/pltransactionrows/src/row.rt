@@ -1,91 +1,73 @@
 //! Rows, and what runs them.
 use crate::acts::added;
 use plhist::Status;
-use plrow::row::{comes_to, reported};
-use std::alloc::{AllocError, Global};
+use plrow::row::{Check, comes_to, reported};
+use std::alloc::Global;
 use std::sync::Wait;
 use std::test::Fail;
 use std::thread::Threads;
 
 /// A program's text, and a goal behind its own; the output and the status.
-pub type Case = (&'static str, &'static str, &'static str, Status);
+pub struct Case(
+    pub &'static str,
+    pub &'static str,
+    pub &'static str,
+    pub Status,
+);
 
 /// The same with a limit of steps in front.
-pub type Limited = (
-    &'static str,
-    &'static str,
-    &'static str,
-    &'static str,
-    Status,
+pub struct Limited(
+    pub &'static str,
+    pub &'static str,
+    pub &'static str,
+    pub &'static str,
+    pub Status,
 );
 
 /// A program's text, and a goal; what their run adds to the journal, and what it asks.
-pub type Journaled = (&'static str, &'static str, &'static str);
+pub struct Journaled(pub &'static str, pub &'static str, pub &'static str);
 
 /// The same with a limit of steps in front.
-pub type Spent = (&'static str, &'static str, &'static str, &'static str);
+pub struct Spent(
+    pub &'static str,
+    pub &'static str,
+    pub &'static str,
+    pub &'static str,
+);
 
 /// A procedure with two clauses, and what writes all that it has.
 pub const TWO: &str = ":- dynamic p/1. p(1). p(2). all :- findall(X, p(X), L), writeq(L).";
 
-/// Runs rows: the place of the first that comes to anything else.
-pub fn first_wrong<R: Threads + Wait + Sync>(
-    rt: &R,
-    alloc: Global,
-    rows: &[Case],
-) -> Result<Option<usize>, AllocError> {
-    for (place, (text, goal, output, status)) in rows.iter().enumerate() {
+impl Check for Case {
+    fn is_right<R: Threads + Wait + Sync>(&self, rt: &R, alloc: Global) -> Result<bool, Fail> {
+        let Case(text, goal, output, status) = self;
         let words = ["prolog", "run", "--goal", goal, "P"];
-        if !comes_to(rt, alloc, &words, text, (output, status))? {
-            return Ok(Some(place));
-        }
+        Ok(comes_to(rt, alloc, &words, text, (output, status))?)
     }
-    Ok(None)
 }
 
-/// The same with limits of steps.
-pub fn first_wrong_limited<R: Threads + Wait + Sync>(
-    rt: &R,
-    alloc: Global,
-    rows: &[Limited],
-) -> Result<Option<usize>, AllocError> {
-    for (place, (steps, text, goal, output, status)) in rows.iter().enumerate() {
+impl Check for Limited {
+    fn is_right<R: Threads + Wait + Sync>(&self, rt: &R, alloc: Global) -> Result<bool, Fail> {
+        let Limited(steps, text, goal, output, status) = self;
         let words = ["prolog", "run", "--steps", steps, "--goal", goal, "P"];
-        if !comes_to(rt, alloc, &words, text, (output, status))? {
-            return Ok(Some(place));
-        }
+        Ok(comes_to(rt, alloc, &words, text, (output, status))?)
     }
-    Ok(None)
 }
 
-/// The same with journals.
-pub fn first_wrong_journal<R: Threads + Wait + Sync>(
-    rt: &R,
-    alloc: Global,
-    rows: &[Journaled],
-) -> Result<Option<usize>, Fail> {
-    for (place, (text, goal, journal)) in rows.iter().enumerate() {
+impl Check for Journaled {
+    fn is_right<R: Threads + Wait + Sync>(&self, rt: &R, alloc: Global) -> Result<bool, Fail> {
+        let Journaled(text, goal, journal) = self;
         let words = ["prolog", "run", "--goal", goal, "P"];
-        if !adds(rt, alloc, &words, text, journal)? {
-            return Ok(Some(place));
-        }
+        adds(rt, alloc, &words, text, journal)
     }
-    Ok(None)
 }
 
-/// The same with journals and limits of steps.
-pub fn first_wrong_spent<R: Threads + Wait + Sync>(
-    rt: &R,
-    alloc: Global,
-    rows: &[Spent],
-) -> Result<Option<usize>, Fail> {
-    for (place, (steps, text, goal, journal)) in rows.iter().enumerate() {
+impl Check for Spent {
+    fn is_right<R: Threads + Wait + Sync>(&self, rt: &R, alloc: Global) -> Result<bool, Fail> {
+        let Spent(steps, text, goal, journal) = self;
         let words = ["prolog", "run", "--steps", steps, "--goal", goal, "P"];
-        if !adds(rt, alloc, &words, text, journal)? {
-            return Ok(Some(place));
-        }
+        adds(rt, alloc, &words, text, journal)
     }
-    Ok(None)
 }
 
 /// Whether what the words make of a text adds this to the journal.
