@@ -70,14 +70,13 @@ fn link(
     Ok(made)
 }
 
-/// Visits a goal and behind it the goal `z`, in a choice with nothing left.
-fn visit(stack: &mut Stack, alloc: Global, goal: &Term) -> Result<(), Fail>
+/// Visits a goal and behind it another one, in a choice with nothing left.
+fn visit(stack: &mut Stack, alloc: Global, goal: &Term, last: &Term) -> Result<(), AllocError>
     requires { IsBlank stack.old }
     ensures { OnOk result (stack.new.basis ≡ stack.old.basis) }
 {
-    let last = Term::atom(alloc, Name::new(alloc, "z")?)?;
     let none = stack.visited();
-    let behind = link(stack, alloc, &last, none)?;
+    let behind = link(stack, alloc, last, none)?;
     let list = link(stack, alloc, goal, behind)?;
     stack.open_plain()?;
     stack.visit(list);
@@ -90,8 +89,9 @@ fn visited(alloc: Global, program: &Program, goal: &Term) -> Result<Stack, Fail>
     ensures latest { IfOk result (λ s. s.basis.latest ≡ record { place = 0; count = 0 }) }
     ensures starts { IfOk result (λ s. s.basis.starts ≡ []) }
 {
+    let last = Term::atom(alloc, Name::new(alloc, "z")?)?;
     let mut stack = empty(alloc, program)?;
-    visit(&mut stack, alloc, goal)?;
+    visit(&mut stack, alloc, goal, &last)?;
     Ok(stack)
 }
 
@@ -121,15 +121,32 @@ pub fn machine(alloc: Global, program: &Program, text: &str) -> Result<Machine, 
     machine_at(alloc, program, &goal)
 }
 
-/// The goal that a machine visits first: its level, its value, the number by which it is called, the values of its arguments, and the list behind
-/// it.
-#[derive(Drop)]
-pub struct Selection {
+/// The goal that a machine visits first: its level, its value, and the list behind it.
+#[derive(Clone, Copy)]
+pub struct Selected {
     pub level: Level,
     pub goal: Cell,
-    pub number: Number,
-    pub args: Vec<Cell>,
     pub rest: Continuation,
+}
+
+/// The goal that a machine visits first.
+pub fn first_goal(machine: &Machine) -> Result<Selected, Fail>
+    ensures { IfOk result (λ x. IsFirstGoal machine.now.stack x.level x.goal x.rest) }
+{
+    match machine.stack.first() {
+        First::Goal(level, goal, rest) => Ok(Selected { level, goal, rest }),
+        _ => Err("no goal is first".into()),
+    }
+}
+
+/// The same with the number by which it is called, and the values of its arguments.
+#[derive(Drop)]
+struct Selection {
+    level: Level,
+    goal: Cell,
+    number: Number,
+    args: Vec<Cell>,
+    rest: Continuation,
 }
 
 /// The number by which a goal is called: a list is made the values of its arguments.
@@ -144,22 +161,20 @@ fn number_of(heap: &Heap, goal: &Cell, args: &mut Vec<Cell>) -> Result<Number, F
     }
 }
 
-/// The goal that a machine visits first.
-pub fn first_goal(machine: &Machine) -> Result<Selection, Fail>
+/// The goal that a machine visits first, by its number.
+fn by_number(machine: &Machine) -> Result<Selection, Fail>
     ensures first { IfOk result (λ x. IsFirstGoal machine.now.stack x.level x.goal x.rest) }
     ensures call { IfOk result (λ x. IsCall machine.now.stack.env.heap x.goal x.number x.args.items) }
 {
-    let First::Goal(level, goal, rest) = machine.stack.first() else {
-        return Err("no goal is first".into());
-    };
+    let first = first_goal(machine)?;
     let mut args = Vec::new(machine.alloc);
-    let number = number_of(machine.stack.env().heap(), &goal, &mut args)?;
+    let number = number_of(machine.stack.env().heap(), &first.goal, &mut args)?;
     Ok(Selection {
-        level,
-        goal,
+        level: first.level,
+        goal: first.goal,
         number,
         args,
-        rest,
+        rest: first.rest,
     })
 }
 
@@ -178,7 +193,7 @@ pub fn first_called(machine: &mut Machine) -> Result<Called, Fail>
     ensures call { IfOk result (λ x. IsCall machine.new.stack.env.heap x.goal x.number machine.new.args.items) }
     ensures ready { (P : Given) → IsReady P machine.old → OnOk result (IsReady P machine.new) }
 {
-    let first = first_goal(machine)?;
+    let first = by_number(machine)?;
     machine.args = first.args;
     Ok(Called {
         level: first.level,
@@ -212,7 +227,7 @@ pub fn first_of_one(machine: &Machine) -> Result<Unary, Fail>
     ensures first { IfOk result (λ x. IsFirstGoal machine.now.stack x.level x.goal x.rest) }
     ensures argument { IfOk result (λ x. IsValue machine.now.stack.env.heap x.argument) }
 {
-    let first = first_goal(machine)?;
+    let first = by_number(machine)?;
     let argument = one(&first.args)?;
     Ok(Unary {
         level: first.level,
@@ -248,7 +263,7 @@ pub fn first_of_two(machine: &Machine) -> Result<Binary, Fail>
     ensures left { IfOk result (λ x. IsValue machine.now.stack.env.heap x.left) }
     ensures right { IfOk result (λ x. IsValue machine.now.stack.env.heap x.right) }
 {
-    let first = first_goal(machine)?;
+    let first = by_number(machine)?;
     let both = two(&first.args)?;
     Ok(Binary {
         level: first.level,
@@ -287,7 +302,7 @@ pub fn first_of_three(machine: &Machine) -> Result<Ternary, Fail>
     ensures second { IfOk result (λ x. IsValue machine.now.stack.env.heap x.second) }
     ensures third { IfOk result (λ x. IsValue machine.now.stack.env.heap x.third) }
 {
-    let first = first_goal(machine)?;
+    let first = by_number(machine)?;
     let all = three(&first.args)?;
     Ok(Ternary {
         level: first.level,

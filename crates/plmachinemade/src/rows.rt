@@ -39,6 +39,15 @@ fn made<D: Doing>(alloc: Global, program: &Program, doing: &D, text: &str) -> Re
     made_in(alloc, program, &mut machine, doing)
 }
 
+/// Adds what is found for a text, where it is not what is wanted.
+fn put_unlike(others: &mut String, found: &str, row: (&str, &str)) -> Result<(), Fail> {
+    let (text, wanted) = row;
+    if found != wanted {
+        write!(others, "{text}: {found} in place of {wanted}, ")?;
+    }
+    Ok(())
+}
+
 /// Adds what is made of a machine of a program at the goal of a text, where it is not what is wanted.
 fn put_other<D: Doing>(
     others: &mut String,
@@ -47,12 +56,8 @@ fn put_other<D: Doing>(
     doing: &D,
     row: (&str, &str),
 ) -> Result<(), Fail> {
-    let (text, wanted) = row;
-    let found = made(alloc, program, doing, text)?;
-    if found.as_str() != wanted {
-        write!(others, "{text}: {found} in place of {wanted}, ")?;
-    }
-    Ok(())
+    let found = made(alloc, program, doing, row.0)?;
+    put_unlike(others, found.as_str(), row)
 }
 
 /// Adds what is made of machines of a program otherwise than rows say.
@@ -87,16 +92,26 @@ pub fn others<D: Doing>(alloc: Global, groups: &[&[Row<D>]]) -> Result<String, F
     others_of(alloc, &program, groups)
 }
 
-/// What is made of machines at goals by one thing that is done, otherwise than is said with the goals.
+/// What is made of machines of a program at goals by one thing that is done, otherwise than is said with the goals.
+fn others_by_of<D: Doing>(
+    alloc: Global,
+    program: &Program,
+    doing: &D,
+    goals: &[(&'static str, &'static str)],
+) -> Result<String, Fail> {
+    let mut others = String::new(alloc);
+    for row in goals {
+        put_other(&mut others, alloc, program, doing, *row)?;
+    }
+    Ok(others)
+}
+
+/// The same of the program of all machines.
 pub fn others_by<D: Doing>(
     alloc: Global,
     doing: &D,
     goals: &[(&'static str, &'static str)],
 ) -> Result<String, Fail> {
     let program = program(alloc)?;
-    let mut others = String::new(alloc);
-    for row in goals {
-        put_other(&mut others, alloc, &program, doing, *row)?;
-    }
-    Ok(others)
+    others_by_of(alloc, &program, doing, goals)
 }

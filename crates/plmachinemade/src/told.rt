@@ -21,6 +21,7 @@ use plstack::frame::{Use, Walk};
 use plstack::stack::Stack;
 use plterm::term::Term;
 use pltx::Isolation;
+use plviews::Layer;
 use std::alloc::Global;
 use std::fmt::Write;
 use std::string::String;
@@ -338,17 +339,47 @@ fn put_cases(found: &mut String, alloc: Global, stack: &mut Stack) -> Result<(),
     put_left(found, alloc, stack)
 }
 
-/// What is next of a machine, with the list that is visited then, its innermost cases, whether something is open, and what was written.
-pub fn told(alloc: Global, machine: &mut Machine) -> Result<String, Fail> {
-    let mut found = mode_text(alloc, &machine.mode)?;
-    if !matches!(machine.mode, Mode::Back(_)) {
-        put_list(&mut found, alloc, &mut machine.stack)?;
+/// Adds what is next.
+fn put_mode(found: &mut String, alloc: Global, mode: &Mode) -> Result<(), Fail> {
+    let text = mode_text(alloc, mode)?;
+    found.push_str(&text)?;
+    Ok(())
+}
+
+/// Adds the list that is visited, where the search does not come back, and the innermost cases.
+fn put_stack(
+    found: &mut String,
+    alloc: Global,
+    stack: &mut Stack,
+    is_back: bool,
+) -> Result<(), Fail> {
+    if !is_back {
+        put_list(found, alloc, stack)?;
     }
-    put_cases(&mut found, alloc, &mut machine.stack)?;
-    if machine.layer.is_open() {
+    put_cases(found, alloc, stack)
+}
+
+/// Adds whether something is open, and what was written.
+fn put_rest(found: &mut String, alloc: Global, layer: &Layer, out: &[u8]) -> Result<(), Fail> {
+    if layer.is_open() {
         found.push_str(" open")?;
     }
-    let out = String::from_utf8_lossy(alloc, &machine.out)?;
+    let out = String::from_utf8_lossy(alloc, out)?;
     found.push_str(&out)?;
+    Ok(())
+}
+
+/// Adds all that is told of a machine.
+fn put_machine(found: &mut String, alloc: Global, machine: &mut Machine) -> Result<(), Fail> {
+    put_mode(found, alloc, &machine.mode)?;
+    let is_back = matches!(machine.mode, Mode::Back(_));
+    put_stack(found, alloc, &mut machine.stack, is_back)?;
+    put_rest(found, alloc, &machine.layer, &machine.out)
+}
+
+/// What is next of a machine, with the list that is visited then, its innermost cases, whether something is open, and what was written.
+pub fn told(alloc: Global, machine: &mut Machine) -> Result<String, Fail> {
+    let mut found = String::new(alloc);
+    put_machine(&mut found, alloc, machine)?;
     Ok(found)
 }

@@ -10,6 +10,7 @@ ghost use Rattle.plstack.specs.StaticCalls.{AreStatics};
 ghost use Rattle.plmachine.specs.Lists.{elements_of, IsPart};
 
 use crate::first::pick;
+use crate::opening::put;
 use plcells::cell::Cell;
 use plcode::program::ProgramCode;
 use plgoals::form::static_of;
@@ -17,7 +18,6 @@ use pllinks::item::Portion;
 use pllinks::level::Level;
 use pllinks::link::Continuation;
 use plmade::code::{environment_of, program};
-use plmade::made::goal_of;
 use plprogram::program::Program;
 use plstack::first::First;
 use plstack::frame::Around;
@@ -97,8 +97,7 @@ fn begin(stack: &mut Stack, alloc: Global, text: &str) -> Result<(), Fail>
     requires frames { stack.old.frames ≡ [] }
     ensures basis { OnOk result (stack.new.basis ≡ stack.old.basis) }
 {
-    let term = goal_of(alloc, text)?;
-    let v = stack.put_copy(alloc, &term)?;
+    let v = put(stack, alloc, text)?;
     start(stack, v)?;
     if !call_first(stack, alloc)? {
         return Err("no clause fits".into());

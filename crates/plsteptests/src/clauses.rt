@@ -2,6 +2,7 @@
 ghost use Rattle.plprogram.specs.Program.{Program as Given};
 ghost use Rattle.plmachinemade.specs.Ready.{IsReady};
 
+use crate::control::foo;
 use plevent::{ClauseName, Update};
 use plmachine::machine::Machine;
 use plmachine::select::Source;
@@ -11,8 +12,6 @@ use plmachinemade::rows::{Doing, Row, others};
 use plnames::kind::Side;
 use plprogram::program::Program;
 use plstack::frame::{Spot, Use, Walk};
-use plterm::indicator::Indicator;
-use plterm::name::Name;
 use std::alloc::{AllocError, Global};
 use std::test::Fail;
 
@@ -85,8 +84,8 @@ fn declare(program: &Program, machine: &mut Machine) -> Result<(), Fail>
 
 /// The declaration of foo with an arity.
 fn declaration(alloc: Global, arity: u16) -> Result<Update, AllocError> {
-    let name = Name::new(alloc, "foo")?;
-    Ok(Update::Declare(Indicator { name, arity }))
+    let of = foo(alloc, arity)?;
+    Ok(Update::Declare(of))
 }
 
 /// The declarations of foo with so many arities.
@@ -159,9 +158,9 @@ fn declare_one(machine: &mut Machine) -> Result<(), Fail>
     requires { (P : Given) × IsReady P machine.old }
 {
     let first = first_goal(machine)?;
-    let name = Name::new(machine.alloc, "foo")?;
+    let of = foo(machine.alloc, 2)?;
     machine.go_on(first.rest);
-    machine.declare_one(Indicator { name, arity: 2 })?;
+    machine.declare_one(of)?;
     Ok(())
 }
 

@@ -11,6 +11,7 @@ use plprogram::program::Program;
 use plstack::frame::Around;
 use plterm::indicator::Indicator;
 use plterm::name::Name;
+use std::alloc::{AllocError, Global};
 use std::test::Fail;
 
 /// A call of a machine, of which the goal that is visited first has the arguments.
@@ -35,15 +36,25 @@ fn go_on(machine: &mut Machine) -> Result<(), Fail> {
     visit_goal(machine, first.argument)
 }
 
-/// The argument is the error of foo/2.
-fn raise(machine: &mut Machine) -> Result<(), Fail> {
+/// The name foo with an arity.
+pub(crate) fn foo(alloc: Global, arity: u16) -> Result<Indicator, AllocError> {
+    let name = Name::new(alloc, "foo")?;
+    Ok(Indicator { name, arity })
+}
+
+/// The argument is the error of a procedure.
+fn raise_of(machine: &mut Machine, of: &Indicator) -> Result<(), Fail> {
     let first = first_of_one(machine)?;
     let heap = machine.stack.env().heap();
     let term = heap.take(machine.alloc, first.argument)?;
-    let name = Name::new(machine.alloc, "foo")?;
-    let of = Indicator { name, arity: 2 };
-    machine.raise(term, &of, first.rest)?;
+    machine.raise(term, of, first.rest)?;
     Ok(())
+}
+
+/// The argument is the error of foo/2.
+fn raise(machine: &mut Machine) -> Result<(), Fail> {
+    let of = foo(machine.alloc, 2)?;
+    raise_of(machine, &of)
 }
 
 /// The run is to be ended with 3.

@@ -5,6 +5,7 @@ ghost use Rattle.plmachine.specs.Running.{IsReady as IsReadied};
 ghost use Rattle.plprogram.specs.Program.{Program as Given};
 ghost use Rattle.plmachinemade.specs.Ready.{IsReady};
 
+use crate::control::foo;
 use plcells::cell::Cell;
 use plevent::JournalPlace;
 use pllinks::level::Level;
@@ -19,7 +20,6 @@ use plprogram::program::Program;
 use plrefusals::predicate::Predicate;
 use plstack::frame::{Around, Catcher};
 use plterm::indicator::Indicator;
-use plterm::name::Name;
 use plterm::term::Term;
 use pltx::Isolation;
 use std::test::Fail;
@@ -167,12 +167,17 @@ fn ready(machine: &mut Machine) -> Result<(), Fail> {
     }
 }
 
+/// An error is that of a procedure.
+fn raise_of(machine: &mut Machine, error: Term, of: &Indicator) -> Result<(), Fail> {
+    let first = first_goal(machine)?;
+    machine.raise(error, of, first.rest)?;
+    Ok(())
+}
+
 /// An error is that of foo/2.
 fn raise(machine: &mut Machine, error: Term) -> Result<(), Fail> {
-    let first = first_goal(machine)?;
-    let name = Name::new(machine.alloc, "foo")?;
-    machine.raise(error, &Indicator { name, arity: 2 }, first.rest)?;
-    Ok(())
+    let of = foo(machine.alloc, 2)?;
+    raise_of(machine, error, &of)
 }
 
 /// Keeps a copy of a value's term for a level.

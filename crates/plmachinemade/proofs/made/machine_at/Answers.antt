@@ -2,7 +2,6 @@ use Rattle.std.proofs.Common.{ap, refl}
 use Rattle.pltx.specs.Own.{any_open}
 use Rattle.plviews.specs.Layers.{Layered}
 use Rattle.plviews.specs.declared.view.View.{View}
-use Rattle.plmachine.proofs.Moves.{begun-by}
 use Rattle.plmachinemade.proofs.Machines.{start_tied}
 use Rattle.plmachinemade.proofs.made.machine_at.Goals as goal
 
@@ -10,7 +9,7 @@ pub returns : goal.returns
 returns c =
     let stack = c.in_ok-stack.ensures in
     record {
-      begun = begun-by c.args.program.now _ _ refl stack.code;
+      begun = stack.code;
       visits = refl;
       tied = start_tied _ stack.latest stack.starts c.new.ensures;
       closed = ap (λ (x : Layered). any_open x.own) c.new.ensures;

@@ -10,3 +10,9 @@ returns-clause-statics c =
     let db = database_of c.args.program.now (λ g. []) [] in
     let own = code-statics c.args.program.now (λ g. []) [] c.in_ok-code.code c.in_ok-code.ensures.code in
     if_ok _ _ c.new-2.result (λ s is. (db, subst (λ m. AreStatics m db) (sym (ap (λ (x : State). x.basis.code) is)) own)) c.new-2.ensures
+
+pub returns-clause-frames : goal.returns-clause-frames
+returns-clause-frames c = if_ok _ _ c.new-2.result (λ s is. ap (λ (x : State). x.frames) is) c.new-2.ensures
+
+pub returns-clause-latest : goal.returns-clause-latest
+returns-clause-latest c = if_ok _ _ c.new-2.result (λ s is. ap (λ (x : State). x.basis.latest) is) c.new-2.ensures

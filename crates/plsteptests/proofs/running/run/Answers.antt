@@ -10,6 +10,6 @@ run-requires-clause-how c =
     record {
       few = tt;
       around = tt;
-      list = c.in_ok-first.ensures.first.there;
-      level = new-precedes (kinds_in s) c.depth-level.result (goals_of s c.in_ok-first.first.rest) (c.depth-level.ensures.is ∙ sym (depth-kinds s)) c.in_ok-first.ensures.first.fits;
+      list = c.in_ok-first.ensures.there;
+      level = new-precedes (kinds_in s) c.depth-level.result (goals_of s c.in_ok-first.first.rest) (c.depth-level.ensures.is ∙ sym (depth-kinds s)) c.in_ok-first.ensures.fits;
     }
