@@ -2,7 +2,6 @@
 ghost use Rattle.plmachinemade.specs.Ready.{IsReady};
 
 use crate::made::{machine, program};
-use crate::told::told;
 use plmachine::machine::Machine;
 use plprogram::program::Program;
 use std::alloc::Global;
@@ -12,31 +11,18 @@ use std::test::Fail;
 
 /// What is done with a machine of a program at a goal, mostly one call of it, of which that goal has the arguments.
 pub trait Doing {
-    /// Does it.
-    fn call(&self, program: &Program, machine: &mut Machine) -> Result<(), Fail>
+    /// Does it: what is told of the machine then.
+    fn tell(&self, program: &Program, machine: &mut Machine) -> Result<String, Fail>
         requires { IsReady program.now machine.old };
 }
 
-/// What is done, the text of a goal, and what that makes of a machine at the goal.
+/// What is done, the text of a goal, and what is told of a machine at the goal then.
 pub type Row<D> = (D, &'static str, &'static str);
 
-/// What is made of a machine by what is done with it.
-fn made_in<D: Doing>(
-    alloc: Global,
-    program: &Program,
-    machine: &mut Machine,
-    doing: &D,
-) -> Result<String, Fail>
-    requires { IsReady program.now machine.old }
-{
-    doing.call(program, machine)?;
-    told(alloc, machine)
-}
-
-/// The same of a machine at the goal of a text.
-fn made<D: Doing>(alloc: Global, program: &Program, doing: &D, text: &str) -> Result<String, Fail> {
+/// What is told of a machine at the goal of a text.
+fn told<D: Doing>(alloc: Global, program: &Program, doing: &D, text: &str) -> Result<String, Fail> {
     let mut machine = machine(alloc, program, text)?;
-    made_in(alloc, program, &mut machine, doing)
+    doing.tell(program, &mut machine)
 }
 
 /// Adds what is found for a text, where it is not what is wanted.
@@ -48,7 +34,7 @@ fn put_unlike(others: &mut String, found: &str, row: (&str, &str)) -> Result<(),
     Ok(())
 }
 
-/// Adds what is made of a machine of a program at the goal of a text, where it is not what is wanted.
+/// Adds what is told of a machine of a program at the goal of a text, where it is not what is wanted.
 fn put_other<D: Doing>(
     others: &mut String,
     alloc: Global,
@@ -56,11 +42,11 @@ fn put_other<D: Doing>(
     doing: &D,
     row: (&str, &str),
 ) -> Result<(), Fail> {
-    let found = made(alloc, program, doing, row.0)?;
+    let found = told(alloc, program, doing, row.0)?;
     put_unlike(others, found.as_str(), row)
 }
 
-/// Adds what is made of machines of a program otherwise than rows say.
+/// Adds what is told of machines of a program otherwise than rows say.
 fn put_others<D: Doing>(
     others: &mut String,
     alloc: Global,
@@ -73,7 +59,7 @@ fn put_others<D: Doing>(
     Ok(())
 }
 
-/// What is made of machines of a program otherwise than groups of rows say.
+/// What is told of machines of a program otherwise than groups of rows say.
 fn others_of<D: Doing>(
     alloc: Global,
     program: &Program,
@@ -92,7 +78,7 @@ pub fn others<D: Doing>(alloc: Global, groups: &[&[Row<D>]]) -> Result<String, F
     others_of(alloc, &program, groups)
 }
 
-/// What is made of machines of a program at goals by one thing that is done, otherwise than is said with the goals.
+/// What is told of machines of a program at goals by one thing that is done, otherwise than is said with the goals.
 fn others_by_of<D: Doing>(
     alloc: Global,
     program: &Program,

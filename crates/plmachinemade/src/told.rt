@@ -34,17 +34,17 @@ pub fn clause_text(alloc: Global, clause: &Clause) -> Result<String, Fail> {
     Ok(format!(in alloc; "{head}:-{body}")?)
 }
 
+/// The text of the addition of a clause.
+fn addition_text(alloc: Global, word: &str, clause: &Clause) -> Result<String, Fail> {
+    let clause = clause_text(alloc, clause)?;
+    Ok(format!(in alloc; "{word} {clause}")?)
+}
+
 /// The text of an update.
 fn update_text(alloc: Global, update: &Update) -> Result<String, Fail> {
     match update {
-        Update::First(clause) => {
-            let clause = clause_text(alloc, clause)?;
-            Ok(format!(in alloc; "first {clause}")?)
-        }
-        Update::Last(clause) => {
-            let clause = clause_text(alloc, clause)?;
-            Ok(format!(in alloc; "last {clause}")?)
-        }
+        Update::First(clause) => addition_text(alloc, "first", clause),
+        Update::Last(clause) => addition_text(alloc, "last", clause),
         Update::Erase(name) => Ok(format!(in alloc; "erase {}.{}", name.place, name.number)?),
         Update::EraseOwn(number) => Ok(format!(in alloc; "erase own {number}")?),
         Update::Declare(p) => Ok(format!(in alloc; "declare {}/{}", p.name.as_str(), p.arity)?),

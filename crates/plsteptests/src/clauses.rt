@@ -9,10 +9,12 @@ use plmachine::select::Source;
 use plmachine::walk::Neck;
 use plmachinemade::made::{first_goal, first_of_one, first_of_two};
 use plmachinemade::rows::{Doing, Row, others};
+use plmachinemade::told::told;
 use plnames::kind::Side;
 use plprogram::program::Program;
 use plstack::frame::{Spot, Use, Walk};
 use std::alloc::{AllocError, Global};
+use std::string::String;
 use std::test::Fail;
 
 /// A call of a machine, at the goal that is visited first.
@@ -164,21 +166,29 @@ fn declare_one(machine: &mut Machine) -> Result<(), Fail>
     Ok(())
 }
 
+/// The call.
+fn call(program: &Program, machine: &mut Machine, by: Call) -> Result<(), Fail>
+    requires { IsReady program.now machine.old }
+{
+    match by {
+        Call::Add(side) => add(program, machine, side),
+        Call::Retrieve => retrieve(program, machine),
+        Call::Retract => retract(program, machine),
+        Call::RetractAll => retract_all(program, machine),
+        Call::Declare => declare(program, machine),
+        Call::Publish(count) => publish(machine, count),
+        Call::PublishOne => publish_one(machine),
+        Call::Erase => erase(machine),
+        Call::Walk => walk(machine),
+        Call::Tell(uses) => tell(machine, uses),
+        Call::DeclareOne => declare_one(machine),
+    }
+}
+
 impl Doing for Call {
-    fn call(&self, program: &Program, machine: &mut Machine) -> Result<(), Fail> {
-        match *self {
-            Call::Add(side) => add(program, machine, side),
-            Call::Retrieve => retrieve(program, machine),
-            Call::Retract => retract(program, machine),
-            Call::RetractAll => retract_all(program, machine),
-            Call::Declare => declare(program, machine),
-            Call::Publish(count) => publish(machine, count),
-            Call::PublishOne => publish_one(machine),
-            Call::Erase => erase(machine),
-            Call::Walk => walk(machine),
-            Call::Tell(uses) => tell(machine, uses),
-            Call::DeclareOne => declare_one(machine),
-        }
+    fn tell(&self, program: &Program, machine: &mut Machine) -> Result<String, Fail> {
+        call(program, machine, *self)?;
+        told(machine.alloc, machine)
     }
 }
 

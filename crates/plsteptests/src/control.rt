@@ -7,11 +7,13 @@ use pllinks::item::{MarkerKind, Portion};
 use plmachine::machine::{Machine, Outcome, Question, Then};
 use plmachinemade::made::{first_goal, first_of_one, first_of_three, first_of_two, visit_goal};
 use plmachinemade::rows::{Doing, Row, others};
+use plmachinemade::told::told;
 use plprogram::program::Program;
 use plstack::frame::Around;
 use plterm::indicator::Indicator;
 use plterm::name::Name;
 use std::alloc::{AllocError, Global};
+use std::string::String;
 use std::test::Fail;
 
 /// A call of a machine, of which the goal that is visited first has the arguments.
@@ -129,24 +131,32 @@ fn throw(machine: &mut Machine) -> Result<(), Fail> {
     Ok(())
 }
 
-impl Doing for Call {
-    fn call(&self, program: &Program, machine: &mut Machine) -> Result<(), Fail> {
-        match *self {
-            Call::GoOn => go_on(machine),
-            Call::Give => {
-                machine.give(Outcome::Halted(3));
-                Ok(())
-            }
-            Call::Raise => raise(machine),
-            Call::Ask => ask(machine),
-            Call::Enter => enter(machine),
-            Call::Both => both(machine),
-            Call::Either => either(machine),
-            Call::Then => then(machine),
-            Call::ThenElse => then_else(machine),
-            Call::Cut => cut(machine),
-            Call::Throw => throw(machine),
+/// The call.
+fn call(machine: &mut Machine, by: Call) -> Result<(), Fail>
+    requires { (P : Given) × IsReady P machine.old }
+{
+    match by {
+        Call::GoOn => go_on(machine),
+        Call::Give => {
+            machine.give(Outcome::Halted(3));
+            Ok(())
         }
+        Call::Raise => raise(machine),
+        Call::Ask => ask(machine),
+        Call::Enter => enter(machine),
+        Call::Both => both(machine),
+        Call::Either => either(machine),
+        Call::Then => then(machine),
+        Call::ThenElse => then_else(machine),
+        Call::Cut => cut(machine),
+        Call::Throw => throw(machine),
+    }
+}
+
+impl Doing for Call {
+    fn tell(&self, program: &Program, machine: &mut Machine) -> Result<String, Fail> {
+        call(machine, *self)?;
+        told(machine.alloc, machine)
     }
 }
 

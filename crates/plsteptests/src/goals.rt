@@ -15,9 +15,11 @@ use plmachine::machine::{Machine, Mode};
 use plmachine::select::Source;
 use plmachinemade::made::{first_called, first_goal};
 use plmachinemade::rows::{Doing, Row, others, others_by};
+use plmachinemade::told::told;
 use plprogram::program::Program;
 use plstack::first::First;
 use plstack::stack::Stack;
+use std::string::String;
 use std::test::Fail;
 
 /// How the goal that is visited first is selected.
@@ -112,14 +114,22 @@ fn built_in(machine: &mut Machine) -> Result<(), Fail>
     Ok(())
 }
 
+/// The call.
+fn call(program: &Program, machine: &mut Machine, by: Call) -> Result<(), Fail>
+    requires { IsReady program.now machine.old }
+{
+    match by {
+        Call::Select => select(program, machine),
+        Call::Term => term(program, machine),
+        Call::Step => step(program, machine),
+        Call::BuiltIn => built_in(machine),
+    }
+}
+
 impl Doing for Call {
-    fn call(&self, program: &Program, machine: &mut Machine) -> Result<(), Fail> {
-        match *self {
-            Call::Select => select(program, machine),
-            Call::Term => term(program, machine),
-            Call::Step => step(program, machine),
-            Call::BuiltIn => built_in(machine),
-        }
+    fn tell(&self, program: &Program, machine: &mut Machine) -> Result<String, Fail> {
+        call(program, machine, *self)?;
+        told(machine.alloc, machine)
     }
 }
 

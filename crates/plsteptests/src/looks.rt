@@ -11,7 +11,8 @@ use plmachine::candidate::{of_name, of_text};
 use plmachine::clauses::mode_of;
 use plmachine::machine::{Find, Lookup, Machine, Sought};
 use plmachine::sought::{first_key, head_of};
-use plmachinemade::made::{first_of_one, first_of_two, machine, program};
+use plmachinemade::made::{first_of_one, first_of_two, program};
+use plmachinemade::rows::{Doing, Row, others};
 use plmachinemade::told::{clause_text, mode_text, use_word};
 use plmade::made::shown;
 use plprogram::program::Program;
@@ -55,36 +56,34 @@ fn looked_of(alloc: Global, machine: &Machine, look: Look) -> Result<String, Fai
     looked_in(alloc, machine.stack.env().heap(), look, first.argument)
 }
 
-/// The same of a program's machine at the goal of a text.
-fn looked_at(alloc: Global, program: &Program, look: Look, text: &str) -> Result<String, Fail> {
-    let machine = machine(alloc, program, text)?;
-    looked_of(alloc, &machine, look)
-}
-
-/// The same of the program of all machines.
-fn looked(alloc: Global, look: Look, text: &str) -> Result<String, Fail> {
-    let program = program(alloc)?;
-    looked_at(alloc, &program, look, text)
+impl Doing for Look {
+    fn tell(&self, program: &Program, machine: &mut Machine) -> Result<String, Fail> {
+        looked_of(machine.alloc, machine, *self)
+    }
 }
 
 /// Calls, goals of one argument, and what the calls tell of its value.
-const LOOKS: [(Look, &str, &str); 12] = [
-    (Look::Head(Use::Call), "g((p(X) :- q))", "p(_1):-q"),
-    (Look::Head(Use::Tell), "g((p(X) :- q))", "p(_1)"),
-    (Look::Head(Use::Erase), "g((p(X) :- q))", "p(_1)"),
-    (Look::Key, "g(p)", "any"),
-    (Look::Key, "g(p(X, a))", "any"),
-    (Look::Key, "g(p(-7))", "-7"),
-    (
-        Look::Key,
-        "g(p(9223372036854775807))",
-        "9223372036854775807",
-    ),
-    (Look::Key, "g(p(a, X))", "atom a"),
-    (Look::Key, "g(p([]))", "atom []"),
-    (Look::Key, "g(p(f(X, b)))", "f/2"),
-    (Look::Key, "g(p([X]))", "./2"),
-    (Look::Key, "g([a, b])", "atom a"),
+const LOOKS: [&[Row<Look>]; 2] = [
+    &[
+        (Look::Head(Use::Call), "g((p(X) :- q))", "p(_1):-q"),
+        (Look::Head(Use::Tell), "g((p(X) :- q))", "p(_1)"),
+        (Look::Head(Use::Erase), "g((p(X) :- q))", "p(_1)"),
+        (Look::Key, "g(p)", "any"),
+        (Look::Key, "g(p(X, a))", "any"),
+        (Look::Key, "g(p(-7))", "-7"),
+    ],
+    &[
+        (
+            Look::Key,
+            "g(p(9223372036854775807))",
+            "9223372036854775807",
+        ),
+        (Look::Key, "g(p(a, X))", "atom a"),
+        (Look::Key, "g(p([]))", "atom []"),
+        (Look::Key, "g(p(f(X, b)))", "f/2"),
+        (Look::Key, "g(p([X]))", "./2"),
+        (Look::Key, "g([a, b])", "atom a"),
+    ],
 ];
 
 /// What clauses are looked up for.
@@ -145,25 +144,14 @@ fn sought_in(alloc: Global, machine: &mut Machine, purpose: Purpose) -> Result<S
     find_text(alloc, machine.stack.env().heap(), &find)
 }
 
-/// The same of a program's machine at the goal of a text.
-fn sought_at(
-    alloc: Global,
-    program: &Program,
-    purpose: Purpose,
-    text: &str,
-) -> Result<String, Fail> {
-    let mut machine = machine(alloc, program, text)?;
-    sought_in(alloc, &mut machine, purpose)
-}
-
-/// The same of the program of all machines.
-fn sought(alloc: Global, purpose: Purpose, text: &str) -> Result<String, Fail> {
-    let program = program(alloc)?;
-    sought_at(alloc, &program, purpose, text)
+impl Doing for Purpose {
+    fn tell(&self, program: &Program, machine: &mut Machine) -> Result<String, Fail> {
+        sought_in(machine.alloc, machine, *self)
+    }
 }
 
 /// Purposes, goals of two arguments, and what is sought for these in a view at 5.
-const SOUGHT: [(Purpose, &str, &str); 4] = [
+const SOUGHT: [&[Row<Purpose>]; 1] = [&[
     (Purpose::Call, "g(d(X), a)", "first to call d(_1) at 5"),
     (
         Purpose::Retrieve,
@@ -176,7 +164,7 @@ const SOUGHT: [(Purpose, &str, &str); 4] = [
         "first to erase d(_1):-q,_1 at 5",
     ),
     (Purpose::RetractAll, "g(d(X), a)", "all of d(_1) at 5"),
-];
+]];
 
 /// The name of a clause.
 const NAME: ClauseName = ClauseName {
@@ -241,21 +229,15 @@ const CANDIDATES: [(Use, &str, &str); 3] = [
 
 #[test]
 fn rows_of_looks(rt: HostRuntime) -> Result<(), Fail> {
-    let alloc = rt.alloc();
-    for (look, text, wanted) in LOOKS {
-        let found = looked(alloc, look, text)?;
-        assert_eq!(rt; found.as_str(), wanted);
-    }
+    let others = others(rt.alloc(), &LOOKS)?;
+    assert_eq!(rt; others.as_str(), "");
     Ok(())
 }
 
 #[test]
 fn rows_of_finds(rt: HostRuntime) -> Result<(), Fail> {
-    let alloc = rt.alloc();
-    for (purpose, text, wanted) in SOUGHT {
-        let found = sought(alloc, purpose, text)?;
-        assert_eq!(rt; found.as_str(), wanted);
-    }
+    let others = others(rt.alloc(), &SOUGHT)?;
+    assert_eq!(rt; others.as_str(), "");
     Ok(())
 }
 

@@ -16,12 +16,14 @@ use plmachinemade::made::{
     first_called, first_goal, first_of_one, first_of_three, first_of_two, visit_goal,
 };
 use plmachinemade::rows::{Doing, Row, others};
+use plmachinemade::told::told;
 use plprogram::program::Program;
 use plrefusals::predicate::Predicate;
 use plstack::frame::{Around, Catcher};
 use plterm::indicator::Indicator;
 use plterm::term::Term;
 use pltx::Isolation;
+use std::string::String;
 use std::test::Fail;
 
 /// A call of a machine, of which the goal that is visited first has the arguments.
@@ -212,24 +214,32 @@ fn gather(machine: &mut Machine, from: u64) -> Result<(), Fail> {
     Ok(())
 }
 
+/// The call.
+fn call(machine: &mut Machine, by: Call) -> Result<(), Fail>
+    requires { (P : Given) × IsReady P machine.old }
+{
+    match by {
+        Call::Once => once(machine),
+        Call::Not => not(machine),
+        Call::Catching => catching(machine),
+        Call::CallWith => call_with(machine),
+        Call::FindAll => find_all(machine),
+        Call::Transaction => within(machine, Isolation::Transaction),
+        Call::Snapshot => within(machine, Isolation::Snapshot),
+        Call::BeginAt => begin_at(machine),
+        Call::Halt => halt(machine),
+        Call::HaltWith => halt_with(machine),
+        Call::Run => run_goal(machine),
+        Call::RunError => run_error(machine),
+        Call::Ready => ready(machine),
+        Call::Gather(from) => gather(machine, from),
+    }
+}
+
 impl Doing for Call {
-    fn call(&self, program: &Program, machine: &mut Machine) -> Result<(), Fail> {
-        match *self {
-            Call::Once => once(machine),
-            Call::Not => not(machine),
-            Call::Catching => catching(machine),
-            Call::CallWith => call_with(machine),
-            Call::FindAll => find_all(machine),
-            Call::Transaction => within(machine, Isolation::Transaction),
-            Call::Snapshot => within(machine, Isolation::Snapshot),
-            Call::BeginAt => begin_at(machine),
-            Call::Halt => halt(machine),
-            Call::HaltWith => halt_with(machine),
-            Call::Run => run_goal(machine),
-            Call::RunError => run_error(machine),
-            Call::Ready => ready(machine),
-            Call::Gather(from) => gather(machine, from),
-        }
+    fn tell(&self, program: &Program, machine: &mut Machine) -> Result<String, Fail> {
+        call(machine, *self)?;
+        told(machine.alloc, machine)
     }
 }
 
