@@ -1,6 +1,6 @@
 //! The error terms (plerror).
+use crate::rows::{Telling, first_wrong, tell_nodes};
 use plerror::error;
-use plreadmade::made::shape;
 use plterm::indicator::Indicator;
 use plterm::name::Name;
 use plterm::term::Term;
@@ -39,15 +39,6 @@ const TERMS: [(&str, &str); 8] = [
     ("a name", "a name"),
 ];
 
-#[test]
-fn errors_of_terms(rt: HostRuntime) -> Result<(), Fail> {
-    for (name, wanted) in TERMS {
-        let found = shape(rt.alloc(), &of_term(rt.alloc(), name)?)?;
-        assert!(rt; found.as_str() == wanted, "{name}");
-    }
-    Ok(())
-}
-
 /// The error of a procedure, by its name.
 fn of_procedure(alloc: Global, name: &str, p: &Indicator) -> Result<Term, AllocError> {
     match name {
@@ -59,13 +50,16 @@ fn of_procedure(alloc: Global, name: &str, p: &Indicator) -> Result<Term, AllocE
     }
 }
 
-/// The nodes of the error of p/3.
-fn of_three(alloc: Global, name: &str) -> Result<String, Fail> {
-    let p = Indicator {
-        name: Name::new(alloc, "p")?,
-        arity: 3,
-    };
-    shape(alloc, &of_procedure(alloc, name, &p)?)
+/// The name p of three arguments.
+fn three(alloc: Global) -> Result<Indicator, AllocError> {
+    let name = Name::new(alloc, "p")?;
+    Ok(Indicator { name, arity: 3 })
+}
+
+/// The error of p/3.
+fn of_three(alloc: Global, name: &str) -> Result<Term, AllocError> {
+    let p = three(alloc)?;
+    of_procedure(alloc, name, &p)
 }
 
 /// A name, and the nodes of the error of that name. The variable of a ball has the number 0.
@@ -83,11 +77,41 @@ const PROCEDURES: [(&str, &str); 5] = [
     ("indicator", "//2 p 3"),
 ];
 
-#[test]
-fn errors_of_procedures(rt: HostRuntime) -> Result<(), Fail> {
-    for (name, wanted) in PROCEDURES {
-        let found = of_three(rt.alloc(), name)?;
-        assert!(rt; found.as_str() == wanted, "{name}");
+/// What errors are of.
+#[derive(Clone, Copy)]
+enum Of {
+    Term,
+    Procedure,
+}
+
+/// The error of a name.
+fn error_of(alloc: Global, of: Of, name: &str) -> Result<Term, AllocError> {
+    match of {
+        Of::Term => of_term(alloc, name),
+        Of::Procedure => of_three(alloc, name),
     }
+}
+
+impl Telling for Of {
+    fn tell(&self, told: &mut String, alloc: Global, text: &str) -> Result<(), Fail> {
+        let error = error_of(alloc, *self, text)?;
+        tell_nodes(told, alloc, &error)
+    }
+}
+
+/// The first wrong name of each.
+type Wrongs = (Option<&'static str>, Option<&'static str>);
+
+fn wrong(alloc: Global) -> Result<Wrongs, Fail> {
+    Ok((
+        first_wrong(alloc, &Of::Term, &TERMS)?,
+        first_wrong(alloc, &Of::Procedure, &PROCEDURES)?,
+    ))
+}
+
+#[test]
+fn error_terms(rt: HostRuntime) -> Result<(), Fail> {
+    let found = wrong(rt.alloc())?;
+    assert!(rt; found == (None, None), "{found:?}");
     Ok(())
 }

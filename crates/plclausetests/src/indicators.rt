@@ -1,52 +1,81 @@
 //! Terms that name procedures (plclause).
-use crate::sequences::all;
+use crate::rows::{Telling, first_wrong, tell_all, tell_none};
 use plclause::named::{indicator_of, indicators_of, is_open, name_of, named_terms, number_to};
 use plreadmade::made::term_of;
 use plterm::indicator::Indicator;
 use plterm::term::Term;
-use std::alloc::{AllocError, Global};
+use std::alloc::Global;
 use std::fmt::Write;
 use std::string::String;
 use std::test::Fail;
 
 /// Adds the text of an indicator.
-fn put(made: &mut String, of: &Indicator) -> Result<(), AllocError> {
-    let name = of.name.as_str();
-    let arity = of.arity;
-    write!(made, "{name}/{arity} ")
+fn put(told: &mut String, of: &Indicator) -> Result<(), Fail> {
+    Ok(write!(told, "{}/{} ", of.name.as_str(), of.arity)?)
 }
 
-/// The texts of indicators.
-fn texts(alloc: Global, indicators: &[Indicator]) -> Result<String, Fail> {
-    let mut made = String::new(alloc);
+/// Adds the texts of indicators.
+fn put_all(told: &mut String, indicators: &[Indicator]) -> Result<(), Fail> {
     for of in indicators {
-        put(&mut made, of)?;
+        put(told, of)?;
     }
-    Ok(made)
+    Ok(())
 }
 
-/// The indicator that a term is.
-fn one_in(alloc: Global, term: &Term) -> Result<String, Fail> {
-    let Some(of) = indicator_of(&term.root())? else {
-        return Ok("none".to_string(alloc)?);
-    };
-    let mut made = String::new(alloc);
-    put(&mut made, &of)?;
-    Ok(made)
+/// Adds the indicator that a term is.
+fn tell_indicator(told: &mut String, term: &Term) -> Result<(), Fail> {
+    match indicator_of(&term.root())? {
+        Some(of) => put(told, &of),
+        None => tell_none(told),
+    }
 }
 
-/// The indicators that a term names.
-fn all_in(alloc: Global, term: &Term) -> Result<String, Fail> {
+/// Adds the indicators that a term names.
+fn tell_indicators(told: &mut String, alloc: Global, term: &Term) -> Result<(), Fail> {
     match indicators_of(alloc, &term.root())? {
-        Some(indicators) => texts(alloc, &indicators),
-        None => Ok("none".to_string(alloc)?),
+        Some(indicators) => put_all(told, &indicators),
+        None => tell_none(told),
     }
 }
 
-/// The terms that are to be indicators.
-fn terms_in(alloc: Global, term: &Term) -> Result<String, Fail> {
+/// Adds the terms that are to be indicators.
+fn tell_terms(told: &mut String, alloc: Global, term: &Term) -> Result<(), Fail> {
     let terms = named_terms(alloc, &term.root())?;
-    all(alloc, &terms)
+    tell_all(told, alloc, &terms)
+}
+
+/// Adds the name that a term is.
+fn tell_name(told: &mut String, term: &Term) -> Result<(), Fail> {
+    match name_of(&term.root()) {
+        Some(name) => Ok(told.push_str(name.as_str())?),
+        None => tell_none(told),
+    }
+}
+
+/// What is told of the term of a text.
+#[derive(Clone, Copy)]
+enum What {
+    Indicator,
+    Indicators,
+    Terms,
+    Name,
+}
+
+/// Adds what is told of a term.
+fn tell_of(told: &mut String, alloc: Global, what: What, term: &Term) -> Result<(), Fail> {
+    match what {
+        What::Indicator => tell_indicator(told, term),
+        What::Indicators => tell_indicators(told, alloc, term),
+        What::Terms => tell_terms(told, alloc, term),
+        What::Name => tell_name(told, term),
+    }
+}
+
+impl Telling for What {
+    fn tell(&self, told: &mut String, alloc: Global, text: &str) -> Result<(), Fail> {
+        let term = term_of(alloc, text)?;
+        tell_of(told, alloc, *self, &term)
+    }
 }
 
 /// A term, and the indicator that it is: an atom with a number from 0 to 1,024.
@@ -125,60 +154,62 @@ const NUMBERS: [(u16, &str, Option<u16>); 9] = [
     (5, "X", None),
 ];
 
-#[test]
-fn rows_of_one(rt: HostRuntime) -> Result<(), Fail> {
-    let alloc = rt.alloc();
-    for (text, wanted) in ONES {
-        let found = one_in(alloc, &term_of(alloc, text)?)?;
-        assert_eq!(rt; found.as_str(), wanted);
+/// Whether it is not known yet what the term of a text names.
+fn is_open_in(alloc: Global, text: &str) -> Result<bool, Fail> {
+    let term = term_of(alloc, text)?;
+    Ok(is_open(&term.root()))
+}
+
+/// The first text of which that is wrong.
+fn wrong_open(alloc: Global) -> Result<Option<&'static str>, Fail> {
+    for (text, wanted) in &OPEN {
+        if is_open_in(alloc, text)? != *wanted {
+            return Ok(Some(*text));
+        }
     }
-    Ok(())
+    Ok(None)
+}
+
+/// The number that the term of a text is, up to a greatest one.
+fn number_in(alloc: Global, most: u16, text: &str) -> Result<Option<u16>, Fail> {
+    let term = term_of(alloc, text)?;
+    Ok(number_to(most, &term.root()))
+}
+
+/// The first text of which that is wrong.
+fn wrong_number(alloc: Global) -> Result<Option<&'static str>, Fail> {
+    for (most, text, wanted) in &NUMBERS {
+        if number_in(alloc, *most, text)? != *wanted {
+            return Ok(Some(*text));
+        }
+    }
+    Ok(None)
+}
+
+/// The first wrong text of each table.
+type Wrongs = (
+    Option<&'static str>,
+    Option<&'static str>,
+    Option<&'static str>,
+    Option<&'static str>,
+    Option<&'static str>,
+    Option<&'static str>,
+);
+
+fn wrong(alloc: Global) -> Result<Wrongs, Fail> {
+    Ok((
+        first_wrong(alloc, &What::Indicator, &ONES)?,
+        first_wrong(alloc, &What::Indicators, &SEVERAL)?,
+        first_wrong(alloc, &What::Terms, &TERMS)?,
+        first_wrong(alloc, &What::Name, &NAMES)?,
+        wrong_open(alloc)?,
+        wrong_number(alloc)?,
+    ))
 }
 
 #[test]
-fn rows_of_several(rt: HostRuntime) -> Result<(), Fail> {
-    let alloc = rt.alloc();
-    for (text, wanted) in SEVERAL {
-        let found = all_in(alloc, &term_of(alloc, text)?)?;
-        assert_eq!(rt; found.as_str(), wanted);
-    }
-    Ok(())
-}
-
-#[test]
-fn rows_of_terms(rt: HostRuntime) -> Result<(), Fail> {
-    let alloc = rt.alloc();
-    for (text, wanted) in TERMS {
-        let found = terms_in(alloc, &term_of(alloc, text)?)?;
-        assert_eq!(rt; found.as_str(), wanted);
-    }
-    Ok(())
-}
-
-#[test]
-fn rows_of_open_terms(rt: HostRuntime) -> Result<(), Fail> {
-    for (text, wanted) in OPEN {
-        let term = term_of(rt.alloc(), text)?;
-        assert!(rt; is_open(&term.root()) == wanted);
-    }
-    Ok(())
-}
-
-#[test]
-fn rows_of_names(rt: HostRuntime) -> Result<(), Fail> {
-    for (text, wanted) in NAMES {
-        let term = term_of(rt.alloc(), text)?;
-        let found = name_of(&term.root()).map_or("none", |name| name.as_str());
-        assert_eq!(rt; found, wanted);
-    }
-    Ok(())
-}
-
-#[test]
-fn rows_of_numbers(rt: HostRuntime) -> Result<(), Fail> {
-    for (most, text, wanted) in NUMBERS {
-        let term = term_of(rt.alloc(), text)?;
-        assert!(rt; number_to(most, &term.root()) == wanted);
-    }
+fn terms_that_name(rt: HostRuntime) -> Result<(), Fail> {
+    let found = wrong(rt.alloc())?;
+    assert!(rt; found == (None, None, None, None, None, None), "{found:?}");
     Ok(())
 }

@@ -13,6 +13,8 @@ mod parts;
 #[cfg(test)]
 mod programs;
 #[cfg(test)]
+mod rows;
+#[cfg(test)]
 mod sequences;
 #[cfg(test)]
 mod settings;

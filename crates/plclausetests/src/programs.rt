@@ -18,14 +18,28 @@ use std::test::Fail;
 const TEXT: &[u8] =
     b":- op(700, xfx, ===>). :- set_prolog_flag(unknown, fail). p(1). p(2). :- p(X).";
 
+/// How many clauses and directives a program has, what unknown procedures are, and the priority of an operator.
+fn told_of_text(program: &Program) -> (u64, u64, Unknown, u16) {
+    let operator = program.operators().infix("===>");
+    (
+        program.clause_count(),
+        program.directive_count(),
+        program.unknown(),
+        operator.map_or(0, |op| op.priority),
+    )
+}
+
+/// What the program of the text tells.
+fn told_of_loaded(alloc: Global) -> Result<(u64, u64, Unknown, u16), LoadError> {
+    let program = load(alloc, TEXT)?;
+    Ok(told_of_text(&program))
+}
+
 // What a program tells of its text.
 #[test]
 fn parts(rt: HostRuntime) -> Result<(), Fail> {
-    let program = load(rt.alloc(), TEXT)?;
-    assert_eq!(rt; (program.clause_count(), program.directive_count()), (2, 3));
-    assert_eq!(rt; program.unknown(), Unknown::Fail);
-    let operator = program.operators().infix("===>");
-    assert_eq!(rt; operator.map_or(0, |op| op.priority), 700);
+    let found = told_of_loaded(rt.alloc())?;
+    assert!(rt; found == (2, 3, Unknown::Fail, 700), "{found:?}");
     Ok(())
 }
 
@@ -37,14 +51,29 @@ fn second(goals: &[Term]) -> Option<&Term> {
     }
 }
 
+/// The program of the text with a goal behind those of the text.
+fn with_goal(alloc: Global) -> Result<Program, Fail> {
+    let goal = term_of(alloc, "q")?;
+    let program = load(alloc, TEXT)?;
+    Ok(program.with_goal(Some(goal))?)
+}
+
+/// Whether the last of a program's two goals is that one.
+fn is_last(alloc: Global, program: &Program) -> Result<bool, Fail> {
+    let wanted = term_of(alloc, "q")?;
+    Ok(second(program.goals()).map_or(false, |last| last.is_same(&wanted)))
+}
+
+/// Whether the goal is behind those of the text.
+fn is_behind(alloc: Global) -> Result<bool, Fail> {
+    let program = with_goal(alloc)?;
+    is_last(alloc, &program)
+}
+
 // A goal behind those of the text.
 #[test]
 fn goal_behind(rt: HostRuntime) -> Result<(), Fail> {
-    let goal = term_of(rt.alloc(), "q")?;
-    let wanted = term_of(rt.alloc(), "q")?;
-    let program = load(rt.alloc(), TEXT)?;
-    let program = program.with_goal(Some(goal))?;
-    assert!(rt; second(program.goals()).map_or(false, |last| last.is_same(&wanted)));
+    assert!(rt; is_behind(rt.alloc())?);
     Ok(())
 }
 
@@ -54,9 +83,9 @@ fn count(alloc: Global, program: &Program, name: &str, arity: u16) -> Result<usi
     Ok(program.clauses_of(&Indicator { name, arity }).len())
 }
 
-/// Adds the clause of a text's term.
-fn add(alloc: Global, procedures: &mut Procedures, text: &str) -> Result<(), Fail> {
-    match clause_of(alloc, &term_of(alloc, text)?)? {
+/// Adds the clause that a term is.
+fn add_form(alloc: Global, procedures: &mut Procedures, form: ClauseForm) -> Result<(), Fail> {
+    match form {
         ClauseForm::IsClause(clause) => Ok(procedures.add(alloc, clause)?),
         ClauseForm::NoHead | ClauseForm::BadHead(_) | ClauseForm::BadBody(_) => Err(
             "no clause".into(),
@@ -64,50 +93,81 @@ fn add(alloc: Global, procedures: &mut Procedures, text: &str) -> Result<(), Fai
     }
 }
 
-/// How many clauses p/1 and q/0 have.
-fn counts(alloc: Global, procedures: &Procedures) -> Result<(usize, usize), AllocError> {
-    let one = Indicator {
-        name: Name::new(alloc, "p")?,
-        arity: 1,
-    };
-    let none = Indicator {
-        name: Name::new(alloc, "q")?,
-        arity: 0,
-    };
-    Ok((
-        procedures.clauses_of(&one).len(),
-        procedures.clauses_of(&none).len(),
-    ))
+/// The form of a text's term.
+fn form_of(alloc: Global, text: &str) -> Result<ClauseForm, Fail> {
+    let term = term_of(alloc, text)?;
+    Ok(clause_of(alloc, &term)?)
 }
 
-/// The clauses p(1), q and p(2).
-fn three(alloc: Global) -> Result<Procedures, Fail> {
-    let mut procedures = Procedures::new(alloc, NameTable::new(alloc)?);
-    for text in ["p(1)", "q", "p(2)"] {
-        add(alloc, &mut procedures, text)?;
+/// Adds the clauses p(1), q and p(2).
+fn add_three(alloc: Global, procedures: &mut Procedures) -> Result<(), Fail> {
+    for text in &["p(1)", "q", "p(2)"] {
+        add_form(alloc, procedures, form_of(alloc, text)?)?;
     }
-    Ok(procedures)
+    Ok(())
+}
+
+/// How many clauses a procedure has.
+fn count_in(
+    alloc: Global,
+    procedures: &Procedures,
+    name: &str,
+    arity: u16,
+) -> Result<usize, AllocError> {
+    let name = Name::new(alloc, name)?;
+    Ok(procedures.clauses_of(&Indicator { name, arity }).len())
+}
+
+/// How many clauses p/1 and q/0 have once the three are added.
+fn counts_in(alloc: Global, procedures: &mut Procedures) -> Result<(usize, usize), Fail> {
+    add_three(alloc, procedures)?;
+    let one = count_in(alloc, procedures, "p", 1)?;
+    let none = count_in(alloc, procedures, "q", 0)?;
+    Ok((one, none))
+}
+
+/// The same where there are no others.
+fn counts(alloc: Global) -> Result<(usize, usize), Fail> {
+    let mut procedures = Procedures::new(alloc, NameTable::new(alloc)?);
+    counts_in(alloc, &mut procedures)
 }
 
 // A clause belongs to the procedure of its name and arity.
 #[test]
 fn procedures(rt: HostRuntime) -> Result<(), Fail> {
-    let procedures = three(rt.alloc())?;
-    assert!(rt; counts(rt.alloc(), &procedures)? == (2, 1));
+    assert!(rt; counts(rt.alloc())? == (2, 1));
     Ok(())
 }
 
-/// The program of those clauses without goals.
-fn made(alloc: Global) -> Result<Program, Fail> {
+/// The clauses p(1), q and p(2).
+fn three(alloc: Global) -> Result<Procedures, Fail> {
+    let mut procedures = Procedures::new(alloc, NameTable::new(alloc)?);
+    add_three(alloc, &mut procedures)?;
+    Ok(procedures)
+}
+
+/// Settings under which double-quoted items are texts of characters.
+fn chars(alloc: Global) -> Result<Settings, AllocError> {
     let mut settings = Settings::iso(alloc)?;
     settings.quotes = Quotes::Chars;
+    Ok(settings)
+}
+
+/// The program of procedures without goals, of three clauses and one directive.
+fn program_of(alloc: Global, procedures: Procedures, settings: Settings) -> Program {
     let first = Batch::new(Vec::new(alloc));
     let counts = Counts {
         clauses: 3,
         directives: 1,
     };
+    Program::new(procedures, Vec::new(alloc), first, settings, counts)
+}
+
+/// The program of those clauses.
+fn made(alloc: Global) -> Result<Program, Fail> {
+    let settings = chars(alloc)?;
     let procedures = three(alloc)?;
-    Ok(Program::new(procedures, Vec::new(alloc), first, settings, counts))
+    Ok(program_of(alloc, procedures, settings))
 }
 
 /// How many clauses, directives, procedures and goals a program has, and what double-quoted items are at its end.
@@ -121,10 +181,15 @@ fn told(program: &Program) -> (u64, u64, usize, usize, Quotes) {
     )
 }
 
+/// What it tells.
+fn told_of_made(alloc: Global) -> Result<(u64, u64, usize, usize, Quotes), Fail> {
+    let program = made(alloc)?;
+    Ok(told(&program))
+}
+
 #[test]
 fn parts_by_hand(rt: HostRuntime) -> Result<(), Fail> {
-    let program = made(rt.alloc())?;
-    assert!(rt; told(&program) == (3, 1, 2, 0, Quotes::Chars));
+    assert!(rt; told_of_made(rt.alloc())? == (3, 1, 2, 0, Quotes::Chars));
     Ok(())
 }
 
@@ -140,27 +205,37 @@ const LIBRARY: [(&str, u16, usize, usize); 5] = [
 
 const KNOWN: &[u8] = b"q. q. member(X, X). :- dynamic(select/3).";
 
-/// How many clauses of a procedure that text holds.
-fn without(alloc: Global, name: &str, arity: u16) -> Result<usize, LoadError> {
-    let program = load(alloc, KNOWN)?;
-    Ok(count(alloc, &program, name, arity)?)
+/// The place of the first of these rows that is wrong of a program without the library, or with it.
+fn wrong_in(
+    alloc: Global,
+    program: &Program,
+    has_library: bool,
+) -> Result<Option<usize>, LoadError> {
+    for (place, (name, arity, first, second)) in LIBRARY.iter().enumerate() {
+        let wanted = if has_library { *second } else { *first };
+        if count(alloc, program, name, *arity)? != wanted {
+            return Ok(Some(place));
+        }
+    }
+    Ok(None)
 }
 
-/// How many it holds with the library.
-fn with(alloc: Global, name: &str, arity: u16) -> Result<usize, LoadError> {
+/// That of the program of the text.
+fn wrong_without(alloc: Global) -> Result<Option<usize>, LoadError> {
+    let program = load(alloc, KNOWN)?;
+    wrong_in(alloc, &program, false)
+}
+
+/// That of the same with the library.
+fn wrong_with(alloc: Global) -> Result<Option<usize>, LoadError> {
     let program = with_library(alloc, load(alloc, KNOWN)?)?;
-    Ok(count(alloc, &program, name, arity)?)
+    wrong_in(alloc, &program, true)
 }
 
 // The library adds what a text neither defines nor declares.
 #[test]
 fn library(rt: HostRuntime) -> Result<(), Fail> {
-    for (name, arity, first, second) in LIBRARY {
-        let found = (
-            without(rt.alloc(), name, arity)?,
-            with(rt.alloc(), name, arity)?,
-        );
-        assert!(rt; found == (first, second), "{name}/{arity}");
-    }
+    assert_eq!(rt; wrong_without(rt.alloc())?, None);
+    assert_eq!(rt; wrong_with(rt.alloc())?, None);
     Ok(())
 }

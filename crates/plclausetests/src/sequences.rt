@@ -1,57 +1,68 @@
 //! Sequences and lists within terms (plclause).
+use crate::rows::{Telling, first_wrong, is_told, tell_all, tell_inner, tell_none};
 use plclause::lists::{argument_of, elements_of, is_list, members_of, pair_of};
-use plreadmade::made::{shape, term_of};
+use plreadmade::made::term_of;
 use plterm::term::Term;
-use plterm::walk::TermRef;
 use std::alloc::Global;
-use std::fmt::Write;
 use std::string::String;
 use std::test::Fail;
 
-/// The nodes of a term within another one.
-pub fn inner(alloc: Global, term: &TermRef<'_>) -> Result<String, Fail> {
-    let copy = term.copied(alloc)?;
-    shape(alloc, &copy)
-}
-
-/// The nodes of terms, each with a semicolon behind it.
-pub fn all(alloc: Global, terms: &[TermRef<'_>]) -> Result<String, Fail> {
-    let mut made = String::new(alloc);
-    for term in terms {
-        let nodes = inner(alloc, term)?;
-        write!(made, "{nodes}; ")?;
-    }
-    Ok(made)
-}
-
-/// The one argument of a name in a term.
-fn argument_in(alloc: Global, term: &Term, name: &str) -> Result<String, Fail> {
+/// Adds the one argument of a name in a term.
+fn tell_argument(told: &mut String, alloc: Global, term: &Term, name: &str) -> Result<(), Fail> {
     match argument_of(&term.root(), name) {
-        Some(argument) => inner(alloc, &argument),
-        None => Ok("none".to_string(alloc)?),
+        Some(argument) => tell_inner(told, alloc, &argument),
+        None => tell_none(told),
     }
 }
 
-/// The two arguments of a name in a term.
-fn pair_in(alloc: Global, term: &Term, name: &str) -> Result<String, Fail> {
+/// Adds the two arguments of a name in a term.
+fn tell_pair(told: &mut String, alloc: Global, term: &Term, name: &str) -> Result<(), Fail> {
     match pair_of(&term.root(), name) {
-        Some((left, right)) => all(alloc, &[left, right]),
-        None => Ok("none".to_string(alloc)?),
+        Some((left, right)) => tell_all(told, alloc, &[left, right]),
+        None => tell_none(told),
     }
 }
 
-/// The elements of a list.
-fn elements_in(alloc: Global, term: &Term) -> Result<String, Fail> {
+/// Adds the elements of a list.
+fn tell_elements(told: &mut String, alloc: Global, term: &Term) -> Result<(), Fail> {
     match elements_of(alloc, &term.root())? {
-        Some(elements) => all(alloc, &elements),
-        None => Ok("none".to_string(alloc)?),
+        Some(elements) => tell_all(told, alloc, &elements),
+        None => tell_none(told),
     }
 }
 
-/// The members of a sequence.
-fn members_in(alloc: Global, term: &Term) -> Result<String, Fail> {
+/// Adds the members of a sequence.
+fn tell_members(told: &mut String, alloc: Global, term: &Term) -> Result<(), Fail> {
     let members = members_of(alloc, &term.root())?;
-    all(alloc, &members)
+    tell_all(told, alloc, &members)
+}
+
+/// What is told of the term of a text.
+#[derive(Clone, Copy)]
+enum What {
+    /// The one argument of a name.
+    Argument(&'static str),
+    /// The two arguments of a name.
+    Pair(&'static str),
+    Elements,
+    Members,
+}
+
+/// Adds what is told of a term.
+fn tell_of(told: &mut String, alloc: Global, what: What, term: &Term) -> Result<(), Fail> {
+    match what {
+        What::Argument(name) => tell_argument(told, alloc, term, name),
+        What::Pair(name) => tell_pair(told, alloc, term, name),
+        What::Elements => tell_elements(told, alloc, term),
+        What::Members => tell_members(told, alloc, term),
+    }
+}
+
+impl Telling for What {
+    fn tell(&self, told: &mut String, alloc: Global, text: &str) -> Result<(), Fail> {
+        let term = term_of(alloc, text)?;
+        tell_of(told, alloc, *self, &term)
+    }
 }
 
 /// A name, a term, and the one argument of that name.
@@ -101,44 +112,63 @@ const MEMBERS: [(&str, &str); 6] = [
     ("X", "_0; "),
 ];
 
-#[test]
-fn rows_of_arguments(rt: HostRuntime) -> Result<(), Fail> {
-    let alloc = rt.alloc();
-    for (name, text, wanted) in ARGUMENTS {
-        let found = argument_in(alloc, &term_of(alloc, text)?, name)?;
-        assert_eq!(rt; found.as_str(), wanted);
+/// The first text of which the one argument is wrong.
+fn wrong_argument(alloc: Global) -> Result<Option<&'static str>, Fail> {
+    for (name, text, wanted) in &ARGUMENTS {
+        if !is_told(alloc, &What::Argument(*name), (*text, *wanted))? {
+            return Ok(Some(*text));
+        }
     }
-    Ok(())
+    Ok(None)
+}
+
+/// The first text of which the two arguments are wrong.
+fn wrong_pair(alloc: Global) -> Result<Option<&'static str>, Fail> {
+    for (name, text, wanted) in &PAIRS {
+        if !is_told(alloc, &What::Pair(*name), (*text, *wanted))? {
+            return Ok(Some(*text));
+        }
+    }
+    Ok(None)
+}
+
+/// Whether the term of a text is built as a list is.
+fn is_built(alloc: Global, text: &str) -> Result<bool, Fail> {
+    let term = term_of(alloc, text)?;
+    Ok(is_list(&term.root()))
+}
+
+/// The first text that is built otherwise, or of which the elements are wrong.
+fn wrong_list(alloc: Global) -> Result<Option<&'static str>, Fail> {
+    for (text, built, wanted) in &LISTS {
+        let same = is_told(alloc, &What::Elements, (*text, *wanted))?;
+        if !same || is_built(alloc, text)? != *built {
+            return Ok(Some(*text));
+        }
+    }
+    Ok(None)
+}
+
+/// The first wrong text of each table.
+type Wrongs = (
+    Option<&'static str>,
+    Option<&'static str>,
+    Option<&'static str>,
+    Option<&'static str>,
+);
+
+fn wrong(alloc: Global) -> Result<Wrongs, Fail> {
+    Ok((
+        wrong_argument(alloc)?,
+        wrong_pair(alloc)?,
+        wrong_list(alloc)?,
+        first_wrong(alloc, &What::Members, &MEMBERS)?,
+    ))
 }
 
 #[test]
-fn rows_of_pairs(rt: HostRuntime) -> Result<(), Fail> {
-    let alloc = rt.alloc();
-    for (name, text, wanted) in PAIRS {
-        let found = pair_in(alloc, &term_of(alloc, text)?, name)?;
-        assert_eq!(rt; found.as_str(), wanted);
-    }
-    Ok(())
-}
-
-#[test]
-fn rows_of_lists(rt: HostRuntime) -> Result<(), Fail> {
-    let alloc = rt.alloc();
-    for (text, built, wanted) in LISTS {
-        let term = term_of(alloc, text)?;
-        assert!(rt; is_list(&term.root()) == built);
-        let found = elements_in(alloc, &term)?;
-        assert_eq!(rt; found.as_str(), wanted);
-    }
-    Ok(())
-}
-
-#[test]
-fn rows_of_members(rt: HostRuntime) -> Result<(), Fail> {
-    let alloc = rt.alloc();
-    for (text, wanted) in MEMBERS {
-        let found = members_in(alloc, &term_of(alloc, text)?)?;
-        assert_eq!(rt; found.as_str(), wanted);
-    }
+fn arguments_and_members(rt: HostRuntime) -> Result<(), Fail> {
+    let found = wrong(rt.alloc())?;
+    assert!(rt; found == (None, None, None, None), "{found:?}");
     Ok(())
 }

@@ -3,11 +3,10 @@ use plops::error::OpError;
 use plops::flag::Quotes;
 use plops::operator::Kind;
 use plops::table::OpTable;
-use plprogram::change::{Flag, FlagError, declare, flag_named, kind_named};
+use plprogram::change::{Flag, FlagError, Refusal, declare, flag_named, kind_named};
 use plprogram::settings::{Settings, Unknown};
 use plterm::name::Name;
 use std::alloc::{AllocError, Global};
-use std::string::String;
 use std::test::Fail;
 
 /// Names, and the kinds of operator that they say (6.3.4.1).
@@ -25,11 +24,19 @@ const KINDS: [(&str, Option<Kind>); 11] = [
     ("", None),
 ];
 
+/// The place of the first of these rows that is wrong.
+fn wrong_kind() -> Option<usize> {
+    for (place, (name, kind)) in KINDS.iter().enumerate() {
+        if kind_named(name) != *kind {
+            return Some(place);
+        }
+    }
+    None
+}
+
 #[test]
 fn kinds_of_operators(rt: HostRuntime) {
-    for (name, kind) in KINDS {
-        assert!(rt; kind_named(name) == kind, "{name}");
-    }
+    assert_eq!(rt; wrong_kind(), None);
 }
 
 /// What a flag and the name of a value say.
@@ -84,14 +91,19 @@ const FLAGS: [(&str, Option<&str>, Result<Flag, FlagError>); 17] = [
     ("", None, Err(FlagError::NoFlag)),
 ];
 
+/// The place of the first of these rows that is wrong.
+fn wrong_flag(alloc: Global) -> Result<Option<usize>, AllocError> {
+    for (place, (flag, value, wanted)) in FLAGS.iter().enumerate() {
+        if named(alloc, flag, *value)? != *wanted {
+            return Ok(Some(place));
+        }
+    }
+    Ok(None)
+}
+
 #[test]
 fn flags_by_name(rt: HostRuntime) -> Result<(), Fail> {
-    for (flag, value, wanted) in FLAGS {
-        assert!(rt;
-            named(rt.alloc(), flag, value)? == wanted,
-            "{flag} {value:?}"
-        );
-    }
+    assert_eq!(rt; wrong_flag(rt.alloc())?, None);
     Ok(())
 }
 
@@ -106,50 +118,20 @@ fn set(alloc: Global, flag: Flag) -> Result<(Quotes, Unknown), AllocError> {
 #[test]
 fn flags_that_are_set(rt: HostRuntime) -> Result<(), Fail> {
     let found = set(rt.alloc(), Flag::Quotes(Quotes::Atom))?;
-    assert_eq!(rt; found, (Quotes::Atom, Unknown::Error));
+    assert!(rt; found == (Quotes::Atom, Unknown::Error), "{found:?}");
     let found = set(rt.alloc(), Flag::Unknown(Unknown::Fail))?;
-    assert_eq!(rt; found, (Quotes::Codes, Unknown::Fail));
+    assert!(rt; found == (Quotes::Codes, Unknown::Fail), "{found:?}");
     Ok(())
 }
 
-/// These as names.
-fn names(alloc: Global, texts: [&'static str; 3]) -> Result<Vec<Name>, AllocError> {
-    let mut names = Vec::new(alloc);
-    for text in texts {
-        names.push(Name::new(alloc, text)?)?;
-    }
-    Ok(names)
-}
-
 /// The priority of the last of three names that are made infix operators; or why one is refused, and which.
-fn declared(
-    alloc: Global,
-    operators: &mut OpTable,
-    priority: u16,
-    texts: [&'static str; 3],
-) -> Result<Result<u16, (OpError, String)>, AllocError> {
-    let names = names(alloc, texts)?;
-    match declare(operators, priority, Kind::Xfx, &names)? {
-        Ok(()) => Ok(Ok(operators.infix(texts[2]).map_or(0, |op| op.priority))),
-        Err(refusal) => {
-            let name = refusal.name.as_str().to_string(alloc)?;
-            Ok(Err((refusal.cause, name)))
-        }
-    }
-}
+type Wanted = Result<u16, (OpError, &'static str)>;
 
-/// What comes of it, on the standard operators.
-fn comes_to(
-    alloc: Global,
-    priority: u16,
-    texts: [&'static str; 3],
-) -> Result<Result<u16, (OpError, String)>, OpError> {
-    let mut operators = OpTable::iso(alloc)?;
-    Ok(declared(alloc, &mut operators, priority, texts)?)
-}
+/// A priority, three names, and what comes of them.
+type Row = (u16, [&'static str; 3], Wanted);
 
 /// A priority, names, and that of the last one, or why one is refused, and which (8.14.3.3).
-const DECLARED: [(u16, [&str; 3], Result<u16, (OpError, &str)>); 5] = [
+const DECLARED: [Row; 5] = [
     (700, ["===>", "is", "<=>"], Ok(700)),
     (0, ["===>", "<", "="], Ok(0)),
     (700, ["===>", ",", "|"], Err((OpError::Comma, ","))),
@@ -157,21 +139,77 @@ const DECLARED: [(u16, [&str; 3], Result<u16, (OpError, &str)>); 5] = [
     (1201, ["===>", ",", "|"], Err((OpError::Priority, "===>"))),
 ];
 
-/// Whether both are the same.
-fn is_same(found: &Result<u16, (OpError, String)>, wanted: Result<u16, (OpError, &str)>) -> bool {
-    match (found, wanted) {
-        (Ok(left), Ok(right)) => *left == right,
-        (Err((cause, name)), Err((other, text))) => *cause == other && name.as_str() == text,
-        _ => false,
+/// Adds these as names.
+fn put_names(alloc: Global, names: &mut Vec<Name>, texts: &[&str]) -> Result<(), AllocError> {
+    for text in texts {
+        names.push(Name::new(alloc, text)?)?;
     }
+    Ok(())
+}
+
+/// Whether an infix operator of a name has the priority that is wanted.
+fn has_priority(operators: &OpTable, name: &str, wanted: Wanted) -> bool {
+    let found = operators.infix(name).map_or(0, |op| op.priority);
+    match wanted {
+        Ok(priority) => found == priority,
+        Err(_) => false,
+    }
+}
+
+/// Whether a refusal is the one that is wanted.
+fn is_refusal(refusal: &Refusal, wanted: Wanted) -> bool {
+    match wanted {
+        Ok(_) => false,
+        Err((cause, name)) => refusal.cause == cause && refusal.name.as_str() == name,
+    }
+}
+
+/// Whether it comes to what is wanted that these names are made operators: the priority of the last one, or a refusal.
+fn comes_to(operators: &mut OpTable, names: &[Name], row: &Row) -> Result<bool, OpError> {
+    let (priority, texts, wanted) = row;
+    match declare(operators, *priority, Kind::Xfx, names)? {
+        Ok(()) => Ok(has_priority(operators, texts[2], *wanted)),
+        Err(refusal) => Ok(is_refusal(&refusal, *wanted)),
+    }
+}
+
+/// The same of the names of a row, which are added first.
+fn comes_to_with(
+    alloc: Global,
+    operators: &mut OpTable,
+    names: &mut Vec<Name>,
+    row: &Row,
+) -> Result<bool, OpError> {
+    let (_, texts, _) = row;
+    put_names(alloc, names, texts)?;
+    comes_to(operators, names, row)
+}
+
+/// The same of operators.
+fn comes_to_of(alloc: Global, operators: &mut OpTable, row: &Row) -> Result<bool, OpError> {
+    let mut names = Vec::new(alloc);
+    comes_to_with(alloc, operators, &mut names, row)
+}
+
+/// The same of the standard operators.
+fn is_as_said(alloc: Global, row: &Row) -> Result<bool, OpError> {
+    let mut operators = OpTable::iso(alloc)?;
+    comes_to_of(alloc, &mut operators, row)
+}
+
+/// The place of the first of these rows that is wrong.
+fn wrong_row(alloc: Global) -> Result<Option<usize>, OpError> {
+    for (place, row) in DECLARED.iter().enumerate() {
+        if !is_as_said(alloc, row)? {
+            return Ok(Some(place));
+        }
+    }
+    Ok(None)
 }
 
 // Names are made operators in their order, up to the first that is refused.
 #[test]
 fn operators_declared(rt: HostRuntime) -> Result<(), Fail> {
-    for (priority, texts, wanted) in DECLARED {
-        let found = comes_to(rt.alloc(), priority, texts)?;
-        assert!(rt; is_same(&found, wanted), "{texts:?}");
-    }
+    assert_eq!(rt; wrong_row(rt.alloc())?, None);
     Ok(())
 }

@@ -3,8 +3,8 @@ ghost use Rattle.std.specs.Prelude.{◌≡◌, ◌≤◌, length, IfOk};
 ghost use Rattle.plcode.specs.Bodies.{IsCode};
 ghost use Rattle.plcode.specs.Steps.{text as text_of};
 
-use crate::steps::{key_word, nodes_text, word};
-use plcode::body::compile_body;
+use crate::rows::{Asking, Row, others};
+use crate::steps::{Steps, compiled, key_word, nodes_text, number_of, sequence, word};
 use plcode::clause::ClauseCode;
 use plcode::code::Code;
 use plcode::draft::Draft;
@@ -13,8 +13,7 @@ use plcode::key::{Key, key_of};
 use plcode::node::Node;
 use plcode::program::ProgramCode;
 use plmade::code::code_of;
-use plmade::made::{goal_of, name};
-use plnames::table::NameTable;
+use plmade::made::goal_of;
 use plterm::term::Term;
 use plterm::walk::{Shape, TermRef};
 use std::alloc::{AllocError, Global};
@@ -27,10 +26,13 @@ fn pair(goal: &Term) -> Result<(TermRef<'_>, TermRef<'_>), Fail> {
     let Shape::Compound(_, mut args) = goal.root().shape() else {
         return Err("no compound".into());
     };
-    match (args.next_term(), args.next_term()) {
-        (Some(left), Some(right)) => Ok((left, right)),
-        _ => Err("no two arguments".into()),
-    }
+    let Some(left) = args.next_term() else {
+        return Err("no two arguments".into());
+    };
+    let Some(right) = args.next_term() else {
+        return Err("no two arguments".into());
+    };
+    Ok((left, right))
 }
 
 /// The keys of a goal's two arguments, and whether they are one.
@@ -45,27 +47,94 @@ fn keys_in(alloc: Global, code: &mut Draft, goal: &Term) -> Result<String, Fail>
     Ok(format!(in alloc; "{left} {right} {same}")?)
 }
 
-/// The same of a text's goal.
-fn keys(alloc: Global, text: &str) -> Result<String, Fail> {
-    let goal = goal_of(alloc, text)?;
+/// The same in the code of no clauses.
+fn keys(alloc: Global, goal: &Term) -> Result<String, Fail> {
     let mut code = Draft::new(alloc)?;
-    keys_in(alloc, &mut code, &goal)
+    keys_in(alloc, &mut code, goal)
 }
 
-/// Goals of two arguments, the keys of these, and whether they are one.
-const KEYS: [(&str, &str); 9] = [
-    ("g(X, Y)", "any any true"),
-    ("g(-7, 7)", "-7 7 false"),
+/// The words of the steps.
+impl Steps for Code {
+    fn put_step(&self, found: &mut String, place: u32) -> Result<bool, Fail> {
+        let step = self.step(place);
+        let word = word(&step.op);
+        write!(found, "{word} ")?;
+        Ok(word == "end")
+    }
+}
+
+/// The steps of a code from a place down, up to the first end of a sequence, and all its nodes.
+fn code_text(alloc: Global, code: &Code, at: u32) -> Result<String, Fail> {
+    let steps = sequence(alloc, code, at)?;
+    let nodes = nodes_text(alloc, code.nodes())?;
+    Ok(format!(in alloc; "{steps}| {nodes}")?)
+}
+
+/// The steps of a body in a code that had the goal fail/0 alone, and all nodes there.
+fn body(alloc: Global, body: &Term) -> Result<String, Fail> {
+    let mut draft = Draft::new(alloc)?;
+    let at = compiled(alloc, &mut draft, body)?;
+    let (code, _names) = Code::of(draft);
+    code_text(alloc, &code, at)
+}
+
+/// The same of a goal, its variables numbered from 0 on.
+fn body_of(alloc: Global, goal: &Term) -> Result<String, Fail> {
+    let goal = goal.copy(alloc, 0)?;
+    body(alloc, &goal)
+}
+
+/// What is asked of a goal.
+#[derive(Clone, Copy)]
+enum Asks {
+    /// The keys of its two arguments, and whether they are one.
+    Keys,
+    /// Its steps and nodes as a body in a code that had the goal fail/0 alone.
+    Body,
+}
+
+impl Asking for Asks {
+    fn told(&self, alloc: Global, text: &str) -> Result<String, Fail> {
+        let goal = goal_of(alloc, text)?;
+        match self {
+            Asks::Keys => keys(alloc, &goal),
+            Asks::Body => body_of(alloc, &goal),
+        }
+    }
+}
+
+/// Goals, and what is told of them.
+const ROWS: [(Asks, &[Row]); 3] = [
     (
-        "g(9223372036854775807, 9223372036854775807)",
-        "9223372036854775807 9223372036854775807 true",
+        Asks::Keys,
+        &[
+            ("g(X, Y)", "any any true"),
+            ("g(-7, 7)", "-7 7 false"),
+            (
+                "g(9223372036854775807, 9223372036854775807)",
+                "9223372036854775807 9223372036854775807 true",
+            ),
+            ("g(a, a)", "atom atom true"),
+            ("g(a, b)", "atom atom false"),
+        ],
     ),
-    ("g(a, a)", "atom atom true"),
-    ("g(a, b)", "atom atom false"),
-    ("g(a, a(1))", "atom compound false"),
-    ("g(f(X), f(a))", "compound compound true"),
-    ("g(f(a), f(a, a))", "compound compound false"),
-    ("g([], [a])", "atom compound false"),
+    (
+        Asks::Keys,
+        &[
+            ("g(a, a(1))", "atom compound false"),
+            ("g(f(X), f(a))", "compound compound true"),
+            ("g(f(a), f(a, a))", "compound compound false"),
+            ("g([], [a])", "atom compound false"),
+        ],
+    ),
+    (
+        Asks::Body,
+        &[
+            ("a", "goal end | atom atom "),
+            ("p(X, 7)", "goal end | atom fun 2 var 0 int 7 sub 1 1 "),
+            ("a, b", "goal goal end | atom atom atom "),
+        ],
+    ),
 ];
 
 /// A clause of a key.
@@ -104,8 +173,7 @@ fn next_of(
     key: Key,
     from: usize,
 ) -> Result<Option<usize>, AllocError> {
-    let clauses = clauses(alloc, count)?;
-    let procedure = Procedure::new(alloc, clauses)?;
+    let procedure = Procedure::new(alloc, clauses(alloc, count)?)?;
     Ok(next(&procedure, key, from))
 }
 
@@ -120,7 +188,9 @@ const KINDS: [Key; 5] = [
 
 /// How many clauses a procedure has, which are scanned where they are few and else found by an index, a key, a place, and the place of the first
 /// clause from there on that the key leaves.
-const NEXT: [(usize, Key, usize, Option<usize>); 12] = [
+type NextRow = (usize, Key, usize, Option<usize>);
+
+const NEXT: [NextRow; 12] = [
     (0, Key::Any, 0, None),
     (5, Key::Int(0), 0, Some(0)),
     (5, Key::Int(0), 1, Some(2)),
@@ -135,68 +205,37 @@ const NEXT: [(usize, Key, usize, Option<usize>); 12] = [
     (40, Key::Any, 39, Some(39)),
 ];
 
-/// The words of the steps of a code from a place down, up to the first end of a sequence.
-fn words(alloc: Global, code: &Code, at: u32) -> Result<String, Fail> {
-    let mut found = String::new(alloc);
-    for place in (0..=at).rev() {
-        let step = code.step(place);
-        let word = word(&step.op);
-        write!(found, "{word} ")?;
-        if word == "end" {
-            break;
+/// The first count of clauses, key and place from which on the key leaves other clauses than rows say.
+fn next_otherwise(
+    alloc: Global,
+    rows: &[NextRow],
+) -> Result<Option<(usize, Key, usize)>, AllocError> {
+    for (count, key, from, wanted) in rows {
+        if next_of(alloc, *count, *key, *from)? != *wanted {
+            return Ok(Some((*count, *key, *from)));
         }
     }
-    Ok(found)
+    Ok(None)
 }
 
-/// The steps of a body in the code of a draft, and all nodes there.
-fn code_text(alloc: Global, code: Draft, body: &Term) -> Result<String, Fail>
-    requires { IsCode (text_of code) }
-{
-    let mut code = code;
-    let kinds = NameTable::new(alloc)?;
-    let at = compile_body(alloc, &mut code, &kinds, &body.root())?;
-    let (code, _names) = Code::of(code);
-    let steps = words(alloc, &code, at)?;
-    let nodes = nodes_text(alloc, code.nodes())?;
-    Ok(format!(in alloc; "{steps}| {nodes}")?)
-}
-
-/// The same of a text.
-fn body(alloc: Global, text: &str) -> Result<String, Fail> {
-    let goal = goal_of(alloc, text)?.copy(alloc, 0)?;
-    let code = Draft::new(alloc)?;
-    code_text(alloc, code, &goal)
-}
-
-/// Bodies, and their steps and nodes in a code that had the goal fail/0 alone.
-const BODIES: [(&str, &str); 3] = [
-    ("a", "goal end | atom atom "),
-    ("p(X, 7)", "goal end | atom fun 2 var 0 int 7 sub 1 1 "),
-    ("a, b", "goal goal end | atom atom atom "),
-];
-
-/// Whether the node at a place is an atom of this name.
-fn has_atom(alloc: Global, code: &ProgramCode, place: u32, text: &str) -> Result<bool, Fail> {
-    let mut names = code.names().copied(alloc)?;
-    let atom = names.atom(&name(alloc, text)?)?;
-    match code.nodes().get(place as usize) {
-        Some(Node::Atom(found)) => Ok(*found == atom),
-        _ => Ok(false),
-    }
-}
-
-/// The word of the step at a place of a program's code, and whether its goal is this atom.
-fn step(alloc: Global, place: u32, text: &str) -> Result<(&'static str, bool), Fail> {
-    let code = code_of(alloc, "p :- q, r. q.")?;
+/// Whether the step at a place of a program's code has this word and the goal of this name.
+fn is_step(
+    alloc: Global,
+    code: &ProgramCode,
+    place: u32,
+    wanted: &str,
+    text: &str,
+) -> Result<bool, Fail> {
+    let atom = number_of(alloc, code, text)?;
     let step = code.step(place);
-    let is_goal = has_atom(alloc, &code, step.goal, text)?;
-    Ok((word(&step.op), is_goal))
+    let node = code.nodes().get(step.goal as usize);
+    let is_goal = matches!(node, Some(Node::Atom(found)) if *found == atom);
+    Ok(word(&step.op) == wanted && is_goal)
 }
 
 /// Places of a program's code, the steps there and their goals: a sequence ends with its first place, fail/0 is the first one of each program, and
 /// behind the last place there are ends, whose node is 0.
-const STEPS: [(u32, &str, &str); 7] = [
+const STEPS: [StepRow; 7] = [
     (0, "end", "fail"),
     (1, "goal", "fail"),
     (2, "end", "fail"),
@@ -206,40 +245,46 @@ const STEPS: [(u32, &str, &str); 7] = [
     (1000, "end", "fail"),
 ];
 
-#[test]
-fn rows_of_keys(rt: HostRuntime) -> Result<(), Fail> {
-    let alloc = rt.alloc();
-    for (text, wanted) in KEYS {
-        let found = keys(alloc, text)?;
-        assert_eq!(rt; found.as_str(), wanted);
+/// A place, the word of the step there, and the name of its goal.
+type StepRow = (u32, &'static str, &'static str);
+
+/// The first place of a program's code at which there is another step than rows say.
+fn step_otherwise(
+    alloc: Global,
+    code: &ProgramCode,
+    rows: &[StepRow],
+) -> Result<Option<u32>, Fail> {
+    for (place, wanted, text) in rows {
+        if !is_step(alloc, code, *place, wanted, text)? {
+            return Ok(Some(*place));
+        }
     }
+    Ok(None)
+}
+
+/// The same of the program of the rows.
+fn other_step(alloc: Global) -> Result<Option<u32>, Fail> {
+    let code = code_of(alloc, "p :- q, r. q.")?;
+    step_otherwise(alloc, &code, &STEPS)
+}
+
+#[test]
+fn rows_of_goals(rt: HostRuntime) -> Result<(), Fail> {
+    let found = others(rt.alloc(), &ROWS)?;
+    assert_eq!(rt; found.as_str(), "");
     Ok(())
 }
 
 #[test]
 fn rows_of_clauses(rt: HostRuntime) -> Result<(), Fail> {
-    for (count, key, from, wanted) in NEXT {
-        let found = next_of(rt.alloc(), count, key, from)?;
-        assert!(rt; found == wanted, "{count} {from}");
-    }
-    Ok(())
-}
-
-#[test]
-fn rows_of_bodies(rt: HostRuntime) -> Result<(), Fail> {
-    let alloc = rt.alloc();
-    for (text, wanted) in BODIES {
-        let found = body(alloc, text)?;
-        assert_eq!(rt; found.as_str(), wanted);
-    }
+    let other = next_otherwise(rt.alloc(), &NEXT)?;
+    assert!(rt; other.is_none(), "{other:?}");
     Ok(())
 }
 
 #[test]
 fn rows_of_steps(rt: HostRuntime) -> Result<(), Fail> {
-    for (place, wanted, text) in STEPS {
-        let found = step(rt.alloc(), place, text)?;
-        assert!(rt; found == (wanted, true), "{place}");
-    }
+    let other = other_step(rt.alloc())?;
+    assert!(rt; other.is_none(), "{other:?}");
     Ok(())
 }

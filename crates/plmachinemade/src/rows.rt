@@ -46,36 +46,19 @@ fn put_other<D: Doing>(
     put_unlike(others, found.as_str(), row)
 }
 
-/// Adds what is told of machines of a program otherwise than rows say.
-fn put_others<D: Doing>(
-    others: &mut String,
-    alloc: Global,
-    program: &Program,
-    rows: &[Row<D>],
-) -> Result<(), Fail> {
-    for (doing, text, wanted) in rows {
-        put_other(others, alloc, program, doing, (*text, *wanted))?;
-    }
-    Ok(())
-}
-
-/// What is told of machines of a program otherwise than groups of rows say.
-fn others_of<D: Doing>(
-    alloc: Global,
-    program: &Program,
-    groups: &[&[Row<D>]],
-) -> Result<String, Fail> {
+/// What is told of machines of a program otherwise than rows say.
+fn others_of<D: Doing>(alloc: Global, program: &Program, rows: &[Row<D>]) -> Result<String, Fail> {
     let mut others = String::new(alloc);
-    for rows in groups {
-        put_others(&mut others, alloc, program, rows)?;
+    for (doing, text, wanted) in rows {
+        put_other(&mut others, alloc, program, doing, (*text, *wanted))?;
     }
     Ok(others)
 }
 
 /// The same of the program of all machines.
-pub fn others<D: Doing>(alloc: Global, groups: &[&[Row<D>]]) -> Result<String, Fail> {
+pub fn others<D: Doing>(alloc: Global, rows: &[Row<D>]) -> Result<String, Fail> {
     let program = program(alloc)?;
-    others_of(alloc, &program, groups)
+    others_of(alloc, &program, rows)
 }
 
 /// What is told of machines of a program at goals by one thing that is done, otherwise than is said with the goals.

@@ -1,10 +1,11 @@
 //! What the predicates on clauses refuse (ISO/IEC 13211-1 8.8, 8.9).
 ghost use Rattle.plcells.specs.Store.{AreValues, IsValue};
 
+use crate::rows::{Asking, Row, others};
+use crate::values::value_told;
 use plcells::cell::Cell;
 use plcells::heap::Heap;
 use plenv::env::Environment;
-use plmade::code::program;
 use plmade::made::{empty, put_arguments, text_of};
 use plprogram::program::Program;
 use plrefusals::refusal::{is_static, no_body, no_head, unchangeable, unerasable, unreadable};
@@ -17,61 +18,96 @@ use std::test::Fail;
 /// A static procedure, one with a clause that is dynamic, and one that is only declared.
 const TEXT: &str = ":- dynamic(d/1). :- dynamic(e/2). d(1). s(1). s(2).";
 
-/// What is asked of a goal.
+/// What is asked of the argument of a goal.
 #[derive(Clone, Copy)]
 enum Asks {
     NoHead,
     NoBody,
     Unerasable,
+    /// What it calls, and the integer that it is.
+    Value,
     /// These are asked of its procedure.
     IsStatic,
     Unchangeable,
     Unreadable,
 }
 
-/// The argument of g, and what is refused where it is not known yet, is an integer, or is of a procedure that the program has in its text, or of a control construct or
-/// a built-in predicate. A goal that no procedure has is dynamic (8.9.1).
-const REFUSALS: [(Asks, &str, &str); 24] = [
-    (Asks::NoHead, "g(X)", "instantiation_error"),
-    (Asks::NoHead, "g(7)", "type_error(callable,7)"),
-    (Asks::NoHead, "g(s(X))", "none"),
-    (Asks::NoHead, "g(go)", "none"),
-    (Asks::NoBody, "g(X)", "none"),
-    (Asks::NoBody, "g(-7)", "type_error(callable,-7)"),
-    (Asks::NoBody, "g(true)", "none"),
-    (Asks::NoBody, "g(f(X))", "none"),
-    (Asks::Unerasable, "g(X)", "instantiation_error"),
-    (Asks::Unerasable, "g(7)", "type_error(callable,7)"),
+/// The argument of g, and what is refused where it is not known yet, is an integer, or is of a procedure that the program has in its text, or of a
+/// control construct or a built-in predicate. A goal that no procedure has is dynamic (8.9.1). Of a value there are told the name and the arity of
+/// the procedure that it calls, and the integer that it is; what is no callable term has no name.
+const ROWS: [(Asks, &[Row]); 7] = [
     (
-        Asks::Unerasable,
-        "g(s(X))",
-        "permission_error(modify,static_procedure,s/1)",
+        Asks::NoHead,
+        &[
+            ("g(X)", "instantiation_error"),
+            ("g(7)", "type_error(callable,7)"),
+            ("g(s(X))", "none"),
+            ("g(go)", "none"),
+        ],
+    ),
+    (
+        Asks::NoBody,
+        &[
+            ("g(X)", "none"),
+            ("g(-7)", "type_error(callable,-7)"),
+            ("g(true)", "none"),
+            ("g(f(X))", "none"),
+        ],
     ),
     (
         Asks::Unerasable,
-        "g(atom(X))",
-        "permission_error(modify,static_procedure,atom/1)",
+        &[
+            ("g(X)", "instantiation_error"),
+            ("g(7)", "type_error(callable,7)"),
+            ("g(s(X))", "permission_error(modify,static_procedure,s/1)"),
+            (
+                "g(atom(X))",
+                "permission_error(modify,static_procedure,atom/1)",
+            ),
+            ("g(d(X))", "none"),
+            ("g(new)", "none"),
+        ],
     ),
-    (Asks::Unerasable, "g(d(X))", "none"),
-    (Asks::Unerasable, "g(new)", "none"),
-    (Asks::IsStatic, "g(s(X))", "yes"),
-    (Asks::IsStatic, "g(s(X, Y))", "no"),
-    (Asks::IsStatic, "g(d(X))", "no"),
-    (Asks::IsStatic, "g(catch(X, Y, Z))", "yes"),
+    (
+        Asks::IsStatic,
+        &[
+            ("g(s(X))", "yes"),
+            ("g(s(X, Y))", "no"),
+            ("g(d(X))", "no"),
+            ("g(catch(X, Y, Z))", "yes"),
+        ],
+    ),
     (
         Asks::Unchangeable,
-        "g(s(X))",
-        "permission_error(modify,static_procedure,s/1)",
+        &[
+            ("g(s(X))", "permission_error(modify,static_procedure,s/1)"),
+            ("g(e(X, Y))", "none"),
+            ("g(e(X))", "none"),
+        ],
     ),
-    (Asks::Unchangeable, "g(e(X, Y))", "none"),
-    (Asks::Unchangeable, "g(e(X))", "none"),
     (
         Asks::Unreadable,
-        "g(atom(X))",
-        "permission_error(access,private_procedure,atom/1)",
+        &[
+            (
+                "g(atom(X))",
+                "permission_error(access,private_procedure,atom/1)",
+            ),
+            ("g(s(X))", "none"),
+            ("g(d(X))", "none"),
+        ],
     ),
-    (Asks::Unreadable, "g(s(X))", "none"),
-    (Asks::Unreadable, "g(d(X))", "none"),
+    (
+        Asks::Value,
+        &[
+            ("g(X)", "/0 no integer"),
+            ("g(12)", "/0 12"),
+            ("g(-9223372036854775808)", "/0 -9223372036854775808"),
+            ("g(9223372036854775807)", "/0 9223372036854775807"),
+            ("g(go)", "go/0 no integer"),
+            ("g(f(X, g(Y), 3))", "f/3 no integer"),
+            ("g([a])", "./2 no integer"),
+        ],
+    ),
 ];
 
 /// The text of an error, or none.
@@ -118,6 +154,7 @@ fn of_value(
         Asks::NoHead => no_head(alloc, heap, v)?,
         Asks::NoBody => no_body(alloc, heap, v)?,
         Asks::Unerasable => unerasable(alloc, program, heap, v)?,
+        Asks::Value => return value_told(alloc, heap, v),
         _ => return of_procedure(alloc, program, heap, asks, v),
     };
     told(alloc, &error)
@@ -151,30 +188,16 @@ fn asked_in(
     of_values(alloc, program, env.heap(), asks, &args)
 }
 
-/// What is asked of the argument of a goal.
-fn asked(alloc: Global, program: &Program, asks: Asks, goal: &str) -> Result<String, Fail> {
-    let mut env = empty(alloc);
-    asked_in(&mut env, alloc, program, asks, goal)
-}
-
-/// What is asked, row by row, beside what is wanted: the rows in which these differ.
-fn unlike(alloc: Global, program: &Program) -> Result<String, Fail> {
-    let mut rows = String::new(alloc);
-    for (asks, goal, wanted) in REFUSALS {
-        let found = asked(alloc, program, asks, goal)?;
-        if found.as_str() != wanted {
-            rows.push_str(goal)?;
-            rows.push_str(found.as_str())?;
-        }
+impl Asking for Asks {
+    fn told(&self, alloc: Global, program: &Program, text: &str) -> Result<String, Fail> {
+        let mut env = empty(alloc);
+        asked_in(&mut env, alloc, program, *self, text)
     }
-    Ok(rows)
 }
 
 #[test]
 fn what_is_refused(rt: HostRuntime) -> Result<(), Fail> {
-    let alloc = rt.alloc();
-    let program = program(alloc, TEXT)?;
-    let rows = unlike(alloc, &program)?;
-    assert_eq!(rt; rows.as_str(), "");
+    let found = others(rt.alloc(), TEXT, &ROWS)?;
+    assert_eq!(rt; found.as_str(), "");
     Ok(())
 }

@@ -5,7 +5,6 @@ use plio::{MemorySink, MemorySource, NoGate};
 use plwords::words::Words;
 use std::alloc::{AllocError, Global};
 use std::sync::Wait;
-use std::test::Fail;
 use std::thread::Threads;
 
 /// The words of a command line, a text, and what they make of it: the output and the status.
@@ -21,36 +20,29 @@ pub const LIST: &[&str] = &["prolog", "list", "P"];
 /// The words that count its clauses and directives.
 pub const CHECK: &[&str] = &["prolog", "check", "P"];
 
-/// A row that is run.
-pub trait Check {
-    /// Whether it comes to what it says.
-    fn is_right<R: Threads + Wait + Sync>(&self, rt: &R, alloc: Global) -> Result<bool, Fail>;
-}
-
-impl Check for Row {
-    fn is_right<R: Threads + Wait + Sync>(&self, rt: &R, alloc: Global) -> Result<bool, Fail> {
-        let (words, text, output, status) = self;
-        Ok(comes_to(rt, alloc, words, text, (output, status))?)
-    }
-}
-
-/// A goal is a program of its own, whose goal it is.
-impl Check for Goal {
-    fn is_right<R: Threads + Wait + Sync>(&self, rt: &R, alloc: Global) -> Result<bool, Fail> {
-        let (goal, written) = self;
-        let text = caught(alloc, goal)?;
-        Ok(writes(rt, alloc, &text, written)?)
-    }
-}
-
 /// Runs rows: the place of the first that comes to anything else.
-fn wrong_in<C: Check, R: Threads + Wait + Sync>(
+fn wrong_row<R: Threads + Wait + Sync>(
     rt: &R,
     alloc: Global,
-    rows: &[C],
-) -> Result<Option<usize>, Fail> {
-    for (place, row) in rows.iter().enumerate() {
-        if !row.is_right(rt, alloc)? {
+    rows: &[Row],
+) -> Result<Option<usize>, AllocError> {
+    for (place, (words, text, output, status)) in rows.iter().enumerate() {
+        if !comes_to(rt, alloc, words, text, (output, status))? {
+            return Ok(Some(place));
+        }
+    }
+    Ok(None)
+}
+
+/// Runs goals, each as a program of its own, whose goal it is: the place of the first that comes to anything else.
+fn wrong_goal<R: Threads + Wait + Sync>(
+    rt: &R,
+    alloc: Global,
+    goals: &[Goal],
+) -> Result<Option<usize>, AllocError> {
+    for (place, (goal, written)) in goals.iter().enumerate() {
+        let text = caught(alloc, goal)?;
+        if !writes(rt, alloc, &text, written)? {
             return Ok(Some(place));
         }
     }
@@ -58,14 +50,28 @@ fn wrong_in<C: Check, R: Threads + Wait + Sync>(
 }
 
 /// Runs groups of rows: the place of the first group with a row that comes to anything else, and the place of that row in it.
-pub fn first_wrong<C: Check, R: Threads + Wait + Sync>(
+pub fn first_wrong<R: Threads + Wait + Sync>(
     rt: &R,
     alloc: Global,
-    groups: &[&[C]],
-) -> Result<Option<(usize, usize)>, Fail> {
+    groups: &[&[Row]],
+) -> Result<Option<(usize, usize)>, AllocError> {
     for (place, rows) in groups.iter().enumerate() {
-        if let Some(row) = wrong_in(rt, alloc, rows)? {
+        if let Some(row) = wrong_row(rt, alloc, rows)? {
             return Ok(Some((place, row)));
+        }
+    }
+    Ok(None)
+}
+
+/// Runs groups of goals, as `first_wrong` does rows.
+pub fn first_wrong_goal<R: Threads + Wait + Sync>(
+    rt: &R,
+    alloc: Global,
+    groups: &[&[Goal]],
+) -> Result<Option<(usize, usize)>, AllocError> {
+    for (place, goals) in groups.iter().enumerate() {
+        if let Some(goal) = wrong_goal(rt, alloc, goals)? {
+            return Ok(Some((place, goal)));
         }
     }
     Ok(None)
@@ -76,7 +82,7 @@ fn wrong_body<R: Threads + Wait + Sync>(
     rt: &R,
     alloc: Global,
     goals: &[Goal],
-) -> Result<Option<usize>, Fail> {
+) -> Result<Option<usize>, AllocError> {
     for (place, (goal, written)) in goals.iter().enumerate() {
         let directive = caught(alloc, "body")?;
         let text = format!(in alloc; "body :- {goal}.\n{directive}")?;
@@ -87,12 +93,12 @@ fn wrong_body<R: Threads + Wait + Sync>(
     Ok(None)
 }
 
-/// Runs groups of goals, each goal as the body of a clause, as `first_wrong` does.
+/// The same, where each goal is the body of a clause.
 pub fn first_wrong_body<R: Threads + Wait + Sync>(
     rt: &R,
     alloc: Global,
     groups: &[&[Goal]],
-) -> Result<Option<(usize, usize)>, Fail> {
+) -> Result<Option<(usize, usize)>, AllocError> {
     for (place, goals) in groups.iter().enumerate() {
         if let Some(row) = wrong_body(rt, alloc, goals)? {
             return Ok(Some((place, row)));

@@ -1,7 +1,7 @@
 //! Arithmetic.
 use plhist::Status;
 use plload::error::RefusalKind;
-use plrow::row::{Goal, RUN, Row, first_wrong, first_wrong_body};
+use plrow::row::{Goal, RUN, Row, first_wrong, first_wrong_body, first_wrong_goal};
 use std::test::Fail;
 
 /// What expressions come to.
@@ -180,9 +180,9 @@ const ENDS: [&[Row]; 1] = [&[
 
 #[test]
 fn rows(rt: HostRuntime) -> Result<(), Fail> {
-    assert_eq!(rt; first_wrong(&rt, rt.alloc(), &VALUES)?, None);
-    assert_eq!(rt; first_wrong(&rt, rt.alloc(), &COMPARISONS)?, None);
-    assert_eq!(rt; first_wrong(&rt, rt.alloc(), &ERRORS)?, None);
+    assert_eq!(rt; first_wrong_goal(&rt, rt.alloc(), &VALUES)?, None);
+    assert_eq!(rt; first_wrong_goal(&rt, rt.alloc(), &COMPARISONS)?, None);
+    assert_eq!(rt; first_wrong_goal(&rt, rt.alloc(), &ERRORS)?, None);
     // The same where they stand in the body of a clause, and are not put on the heap.
     assert_eq!(rt; first_wrong_body(&rt, rt.alloc(), &VALUES)?, None);
     assert_eq!(rt; first_wrong_body(&rt, rt.alloc(), &COMPARISONS)?, None);

@@ -1,7 +1,7 @@
 //! Built-in predicates on atoms.
 use plhist::Status;
 use plload::error::RefusalKind;
-use plrow::row::{Goal, RUN, Row, first_wrong};
+use plrow::row::{Goal, RUN, Row, first_wrong, first_wrong_goal};
 use std::test::Fail;
 
 /// atom_length/2: how many characters there are.
@@ -160,8 +160,8 @@ const ENDS: [&[Row]; 1] = [&[
 
 #[test]
 fn rows(rt: HostRuntime) -> Result<(), Fail> {
-    assert_eq!(rt; first_wrong(&rt, rt.alloc(), &LENGTHS)?, None);
-    assert_eq!(rt; first_wrong(&rt, rt.alloc(), &LENGTH_ERRORS)?, None);
+    assert_eq!(rt; first_wrong_goal(&rt, rt.alloc(), &LENGTHS)?, None);
+    assert_eq!(rt; first_wrong_goal(&rt, rt.alloc(), &LENGTH_ERRORS)?, None);
     assert_eq!(rt; first_wrong(&rt, rt.alloc(), &ENDS)?, None);
     Ok(())
 }

@@ -1,5 +1,5 @@
 //! Built-in predicates that make terms of their parts, copy them, and find their variables.
-use plrow::row::{Goal, first_wrong};
+use plrow::row::{Goal, first_wrong_goal};
 use std::test::Fail;
 
 /// functor/3, `=..`/2, copy_term/2, term_variables/2 and `\=`/2.
@@ -156,7 +156,7 @@ const BUILT_ERRORS: [&[Goal]; 3] = [
 
 #[test]
 fn rows(rt: HostRuntime) -> Result<(), Fail> {
-    assert_eq!(rt; first_wrong(&rt, rt.alloc(), &BUILT)?, None);
-    assert_eq!(rt; first_wrong(&rt, rt.alloc(), &BUILT_ERRORS)?, None);
+    assert_eq!(rt; first_wrong_goal(&rt, rt.alloc(), &BUILT)?, None);
+    assert_eq!(rt; first_wrong_goal(&rt, rt.alloc(), &BUILT_ERRORS)?, None);
     Ok(())
 }

@@ -1,5 +1,5 @@
 //! The predicates that read and change clauses.
-use plrow::row::{Goal, first_wrong};
+use plrow::row::{Goal, first_wrong_goal};
 use std::test::Fail;
 
 /// Clauses that are added, and what calls then find.
@@ -311,16 +311,16 @@ const NOT_DECLARED: [&[Goal]; 3] = [
 #[test]
 fn rows(rt: HostRuntime) -> Result<(), Fail> {
     // asserta/1, assertz/1 and assert/1 (8.9.1, 8.9.2): a call finds the clauses that were alive when it began, in their order.
-    assert_eq!(rt; first_wrong(&rt, rt.alloc(), &ADDED)?, None);
+    assert_eq!(rt; first_wrong_goal(&rt, rt.alloc(), &ADDED)?, None);
     // Their errors: the head, the body, a procedure that is static.
-    assert_eq!(rt; first_wrong(&rt, rt.alloc(), &REFUSED)?, None);
+    assert_eq!(rt; first_wrong_goal(&rt, rt.alloc(), &REFUSED)?, None);
     // clause/2 (8.8.1): bodies are converted, and a call of it keeps the clauses that were alive when it began.
-    assert_eq!(rt; first_wrong(&rt, rt.alloc(), &TOLD)?, None);
+    assert_eq!(rt; first_wrong_goal(&rt, rt.alloc(), &TOLD)?, None);
     // Its errors: the head, the body, a procedure that is private.
-    assert_eq!(rt; first_wrong(&rt, rt.alloc(), &NOT_TOLD)?, None);
+    assert_eq!(rt; first_wrong_goal(&rt, rt.alloc(), &NOT_TOLD)?, None);
     // dynamic/1: one name, a sequence or a list; a procedure that is there stays as it is.
-    assert_eq!(rt; first_wrong(&rt, rt.alloc(), &DECLARED)?, None);
+    assert_eq!(rt; first_wrong_goal(&rt, rt.alloc(), &DECLARED)?, None);
     // Its errors: what is unknown, what names no procedure, a procedure that is static.
-    assert_eq!(rt; first_wrong(&rt, rt.alloc(), &NOT_DECLARED)?, None);
+    assert_eq!(rt; first_wrong_goal(&rt, rt.alloc(), &NOT_DECLARED)?, None);
     Ok(())
 }

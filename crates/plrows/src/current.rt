@@ -1,7 +1,7 @@
 //! The operators and the flags as they stand: current_op/3 and current_prolog_flag/2.
 use plhist::Status;
 use plload::error::RefusalKind;
-use plrow::row::{Goal, RUN, Row, first_wrong};
+use plrow::row::{Goal, RUN, Row, first_wrong, first_wrong_goal};
 use std::test::Fail;
 
 /// current_op/3: by name, and of a name first the prefix operator.
@@ -275,9 +275,9 @@ const KEPT: [&[Row]; 1] = [&[
 #[test]
 fn rows(rt: HostRuntime) -> Result<(), Fail> {
     assert_eq!(rt; first_wrong(&rt, rt.alloc(), &KEPT)?, None);
-    assert_eq!(rt; first_wrong(&rt, rt.alloc(), &OPERATORS)?, None);
-    assert_eq!(rt; first_wrong(&rt, rt.alloc(), &OPERATOR_ERRORS)?, None);
-    assert_eq!(rt; first_wrong(&rt, rt.alloc(), &FLAGS)?, None);
-    assert_eq!(rt; first_wrong(&rt, rt.alloc(), &FLAG_ERRORS)?, None);
+    assert_eq!(rt; first_wrong_goal(&rt, rt.alloc(), &OPERATORS)?, None);
+    assert_eq!(rt; first_wrong_goal(&rt, rt.alloc(), &OPERATOR_ERRORS)?, None);
+    assert_eq!(rt; first_wrong_goal(&rt, rt.alloc(), &FLAGS)?, None);
+    assert_eq!(rt; first_wrong_goal(&rt, rt.alloc(), &FLAG_ERRORS)?, None);
     Ok(())
 }

@@ -1,5 +1,5 @@
 //! The predicates that erase clauses.
-use plrow::row::{Goal, first_wrong};
+use plrow::row::{Goal, first_wrong_goal};
 use std::test::Fail;
 
 /// Clauses that are erased one at a time.
@@ -206,10 +206,10 @@ const ALL_ERASED: [&[Goal]; 2] = [
 #[test]
 fn rows(rt: HostRuntime) -> Result<(), Fail> {
     // retract/1 (8.9.3): one clause a solution; one that another goal erased is passed over.
-    assert_eq!(rt; first_wrong(&rt, rt.alloc(), &ERASED)?, None);
+    assert_eq!(rt; first_wrong_goal(&rt, rt.alloc(), &ERASED)?, None);
     // Errors of retract/1 and retractall/1.
-    assert_eq!(rt; first_wrong(&rt, rt.alloc(), &NOT_ERASED)?, None);
+    assert_eq!(rt; first_wrong_goal(&rt, rt.alloc(), &NOT_ERASED)?, None);
     // retractall/1: all at once, bodies are not looked at; a procedure that is not there is declared.
-    assert_eq!(rt; first_wrong(&rt, rt.alloc(), &ALL_ERASED)?, None);
+    assert_eq!(rt; first_wrong_goal(&rt, rt.alloc(), &ALL_ERASED)?, None);
     Ok(())
 }

@@ -1,5 +1,5 @@
 //! findall/3.
-use plrow::row::{Goal, first_wrong};
+use plrow::row::{Goal, first_wrong_goal};
 use std::test::Fail;
 
 const FOUND: [&[Goal]; 9] = [
@@ -157,6 +157,6 @@ const FOUND: [&[Goal]; 9] = [
 
 #[test]
 fn rows_of_findall(rt: HostRuntime) -> Result<(), Fail> {
-    assert_eq!(rt; first_wrong(&rt, rt.alloc(), &FOUND)?, None);
+    assert_eq!(rt; first_wrong_goal(&rt, rt.alloc(), &FOUND)?, None);
     Ok(())
 }

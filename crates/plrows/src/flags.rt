@@ -1,5 +1,5 @@
 //! Built-in predicates that change the operators and the flags.
-use plrow::row::{Goal, first_wrong};
+use plrow::row::{Goal, first_wrong_goal};
 use std::test::Fail;
 
 /// op/3.
@@ -356,9 +356,9 @@ const FLAG_ERRORS: [&[Goal]; 3] = [
 
 #[test]
 fn rows(rt: HostRuntime) -> Result<(), Fail> {
-    assert_eq!(rt; first_wrong(&rt, rt.alloc(), &OPERATORS)?, None);
-    assert_eq!(rt; first_wrong(&rt, rt.alloc(), &OPERATOR_ERRORS)?, None);
-    assert_eq!(rt; first_wrong(&rt, rt.alloc(), &FLAGS)?, None);
-    assert_eq!(rt; first_wrong(&rt, rt.alloc(), &FLAG_ERRORS)?, None);
+    assert_eq!(rt; first_wrong_goal(&rt, rt.alloc(), &OPERATORS)?, None);
+    assert_eq!(rt; first_wrong_goal(&rt, rt.alloc(), &OPERATOR_ERRORS)?, None);
+    assert_eq!(rt; first_wrong_goal(&rt, rt.alloc(), &FLAGS)?, None);
+    assert_eq!(rt; first_wrong_goal(&rt, rt.alloc(), &FLAG_ERRORS)?, None);
     Ok(())
 }

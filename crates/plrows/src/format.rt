@@ -1,5 +1,5 @@
 //! Formatted output.
-use plrow::row::{Goal, first_wrong};
+use plrow::row::{Goal, first_wrong_goal};
 use std::test::Fail;
 
 /// format/1 and format/2.
@@ -202,7 +202,7 @@ const FORMAT_ERRORS: [&[Goal]; 7] = [
 
 #[test]
 fn rows(rt: HostRuntime) -> Result<(), Fail> {
-    assert_eq!(rt; first_wrong(&rt, rt.alloc(), &FORMATS)?, None);
-    assert_eq!(rt; first_wrong(&rt, rt.alloc(), &FORMAT_ERRORS)?, None);
+    assert_eq!(rt; first_wrong_goal(&rt, rt.alloc(), &FORMATS)?, None);
+    assert_eq!(rt; first_wrong_goal(&rt, rt.alloc(), &FORMAT_ERRORS)?, None);
     Ok(())
 }

@@ -1,6 +1,6 @@
 //! The library.
 use plhist::Status;
-use plrow::row::{CHECK, Goal, LIST, RUN, Row, first_wrong};
+use plrow::row::{CHECK, Goal, LIST, RUN, Row, first_wrong, first_wrong_goal};
 use std::test::Fail;
 
 /// What its procedures give, all answers in their order.
@@ -145,8 +145,8 @@ const PROGRAMS: [&[Row]; 1] = [&[
 
 #[test]
 fn rows(rt: HostRuntime) -> Result<(), Fail> {
-    assert_eq!(rt; first_wrong(&rt, rt.alloc(), &ANSWERS)?, None);
-    assert_eq!(rt; first_wrong(&rt, rt.alloc(), &ERRORS)?, None);
+    assert_eq!(rt; first_wrong_goal(&rt, rt.alloc(), &ANSWERS)?, None);
+    assert_eq!(rt; first_wrong_goal(&rt, rt.alloc(), &ERRORS)?, None);
     assert_eq!(rt; first_wrong(&rt, rt.alloc(), &PROGRAMS)?, None);
     Ok(())
 }

@@ -1,7 +1,7 @@
 //! Built-in predicates that compare terms, and ground/1.
 use plhist::Status;
 use plload::error::RefusalKind;
-use plrow::row::{Goal, RUN, Row, first_wrong};
+use plrow::row::{Goal, RUN, Row, first_wrong, first_wrong_goal};
 use std::test::Fail;
 
 /// The same and other terms, and their order one by one.
@@ -183,8 +183,8 @@ q(Y, X) :- Y @> X, write(older).
 
 #[test]
 fn rows(rt: HostRuntime) -> Result<(), Fail> {
-    assert_eq!(rt; first_wrong(&rt, rt.alloc(), &ORDERS)?, None);
-    assert_eq!(rt; first_wrong(&rt, rt.alloc(), &ORDER_ERRORS)?, None);
+    assert_eq!(rt; first_wrong_goal(&rt, rt.alloc(), &ORDERS)?, None);
+    assert_eq!(rt; first_wrong_goal(&rt, rt.alloc(), &ORDER_ERRORS)?, None);
     assert_eq!(rt; first_wrong(&rt, rt.alloc(), &ORDER_PROGRAMS)?, None);
     Ok(())
 }

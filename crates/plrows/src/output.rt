@@ -1,5 +1,5 @@
 //! Built-in predicates that write.
-use plrow::row::{Goal, first_wrong};
+use plrow::row::{Goal, first_wrong_goal};
 use std::test::Fail;
 
 /// What is written.
@@ -46,7 +46,7 @@ const OUTPUT_ERRORS: [&[Goal]; 1] = [&[
 
 #[test]
 fn rows(rt: HostRuntime) -> Result<(), Fail> {
-    assert_eq!(rt; first_wrong(&rt, rt.alloc(), &OUTPUT)?, None);
-    assert_eq!(rt; first_wrong(&rt, rt.alloc(), &OUTPUT_ERRORS)?, None);
+    assert_eq!(rt; first_wrong_goal(&rt, rt.alloc(), &OUTPUT)?, None);
+    assert_eq!(rt; first_wrong_goal(&rt, rt.alloc(), &OUTPUT_ERRORS)?, None);
     Ok(())
 }

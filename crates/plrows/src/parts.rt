@@ -1,5 +1,5 @@
 //! Built-in predicates on the parts of a term.
-use plrow::row::{Goal, first_wrong};
+use plrow::row::{Goal, first_wrong_goal};
 use std::test::Fail;
 
 /// arg/3, and unify_with_occurs_check/2.
@@ -64,7 +64,7 @@ const PART_ERRORS: [&[Goal]; 2] = [
 
 #[test]
 fn rows(rt: HostRuntime) -> Result<(), Fail> {
-    assert_eq!(rt; first_wrong(&rt, rt.alloc(), &PARTS)?, None);
-    assert_eq!(rt; first_wrong(&rt, rt.alloc(), &PART_ERRORS)?, None);
+    assert_eq!(rt; first_wrong_goal(&rt, rt.alloc(), &PARTS)?, None);
+    assert_eq!(rt; first_wrong_goal(&rt, rt.alloc(), &PART_ERRORS)?, None);
     Ok(())
 }

@@ -1,6 +1,6 @@
 //! Parts of texts: sub_atom/5 and atom_concat/3.
 use plhist::Status;
-use plrow::row::{Goal, RUN, Row, first_wrong};
+use plrow::row::{Goal, RUN, Row, first_wrong, first_wrong_goal};
 use std::test::Fail;
 
 /// sub_atom/5: by how many characters stand before a part, and then by how many it has.
@@ -421,10 +421,10 @@ const ENDS: [&[Row]; 1] = [&[
 
 #[test]
 fn rows(rt: HostRuntime) -> Result<(), Fail> {
-    assert_eq!(rt; first_wrong(&rt, rt.alloc(), &PARTS)?, None);
-    assert_eq!(rt; first_wrong(&rt, rt.alloc(), &PART_ERRORS)?, None);
-    assert_eq!(rt; first_wrong(&rt, rt.alloc(), &JOINED)?, None);
-    assert_eq!(rt; first_wrong(&rt, rt.alloc(), &JOINED_ERRORS)?, None);
+    assert_eq!(rt; first_wrong_goal(&rt, rt.alloc(), &PARTS)?, None);
+    assert_eq!(rt; first_wrong_goal(&rt, rt.alloc(), &PART_ERRORS)?, None);
+    assert_eq!(rt; first_wrong_goal(&rt, rt.alloc(), &JOINED)?, None);
+    assert_eq!(rt; first_wrong_goal(&rt, rt.alloc(), &JOINED_ERRORS)?, None);
     assert_eq!(rt; first_wrong(&rt, rt.alloc(), &ENDS)?, None);
     Ok(())
 }

@@ -1,5 +1,5 @@
 //! Built-in predicates that put the elements of a list in order.
-use plrow::row::{Goal, first_wrong};
+use plrow::row::{Goal, first_wrong_goal};
 use std::test::Fail;
 
 /// sort/2, msort/2 and keysort/2.
@@ -83,7 +83,7 @@ const SORTED_ERRORS: [&[Goal]; 3] = [
 
 #[test]
 fn rows(rt: HostRuntime) -> Result<(), Fail> {
-    assert_eq!(rt; first_wrong(&rt, rt.alloc(), &SORTED)?, None);
-    assert_eq!(rt; first_wrong(&rt, rt.alloc(), &SORTED_ERRORS)?, None);
+    assert_eq!(rt; first_wrong_goal(&rt, rt.alloc(), &SORTED)?, None);
+    assert_eq!(rt; first_wrong_goal(&rt, rt.alloc(), &SORTED_ERRORS)?, None);
     Ok(())
 }

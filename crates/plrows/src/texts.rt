@@ -1,6 +1,6 @@
 //! Built-in predicates on the texts of atoms and numbers.
 use plhist::Status;
-use plrow::row::{Goal, RUN, Row, first_wrong};
+use plrow::row::{Goal, RUN, Row, first_wrong, first_wrong_goal};
 use std::test::Fail;
 
 /// atom_chars/2, atom_codes/2 and char_code/2.
@@ -360,9 +360,9 @@ const LONGEST: [&[Row]; 2] = [
 
 #[test]
 fn rows(rt: HostRuntime) -> Result<(), Fail> {
-    assert_eq!(rt; first_wrong(&rt, rt.alloc(), &TEXTS)?, None);
-    assert_eq!(rt; first_wrong(&rt, rt.alloc(), &NUMBERS)?, None);
-    assert_eq!(rt; first_wrong(&rt, rt.alloc(), &TEXT_ERRORS)?, None);
+    assert_eq!(rt; first_wrong_goal(&rt, rt.alloc(), &TEXTS)?, None);
+    assert_eq!(rt; first_wrong_goal(&rt, rt.alloc(), &NUMBERS)?, None);
+    assert_eq!(rt; first_wrong_goal(&rt, rt.alloc(), &TEXT_ERRORS)?, None);
     assert_eq!(rt; first_wrong(&rt, rt.alloc(), &LONGEST)?, None);
     Ok(())
 }

@@ -1,7 +1,7 @@
 //! Built-in predicates that ask what a term is.
 use plhist::Status;
 use plload::error::RefusalKind;
-use plrow::row::{Goal, RUN, Row, first_wrong};
+use plrow::row::{Goal, RUN, Row, first_wrong, first_wrong_goal};
 use std::test::Fail;
 
 /// Each test of terms of all forms: those for which it is true.
@@ -109,8 +109,8 @@ const ENDS: [&[Row]; 1] = [&[
 
 #[test]
 fn rows(rt: HostRuntime) -> Result<(), Fail> {
-    assert_eq!(rt; first_wrong(&rt, rt.alloc(), &TRUE_OF)?, None);
-    assert_eq!(rt; first_wrong(&rt, rt.alloc(), &TESTS)?, None);
+    assert_eq!(rt; first_wrong_goal(&rt, rt.alloc(), &TRUE_OF)?, None);
+    assert_eq!(rt; first_wrong_goal(&rt, rt.alloc(), &TESTS)?, None);
     assert_eq!(rt; first_wrong(&rt, rt.alloc(), &ENDS)?, None);
     Ok(())
 }

@@ -3,6 +3,7 @@ ghost use Rattle.std.specs.Prelude.{◌≡◌, OnOk};
 ghost use Rattle.plstack.specs.Places.{Database};
 ghost use Rattle.plstack.specs.StaticCalls.{AreStatics};
 
+use crate::cases::put_unlike;
 use plstack::stack::Stack;
 use plstackmade::back::{close_plain, take};
 use plstackmade::first::pass;
@@ -11,7 +12,6 @@ use plstackmade::made::{begun, call_first};
 use plstackmade::opening::branch;
 use plstackmade::state::{number, state};
 use std::alloc::Global;
-use std::fmt::Write;
 use std::string::String;
 use std::test::Fail;
 
@@ -113,16 +113,28 @@ fn moved(stack: &mut Stack, alloc: Global, by: Move) -> Result<String, Fail>
     }
 }
 
+/// Does it, and adds what it tells, where that is not what is wanted.
+fn put_moved(
+    others: &mut String,
+    stack: &mut Stack,
+    alloc: Global,
+    by: Move,
+    wanted: &str,
+) -> Result<(), Fail>
+    requires statics { (db : Database) × AreStatics stack.old.basis.code db }
+    ensures basis { OnOk result (stack.new.basis ≡ stack.old.basis) }
+{
+    let found = moved(stack, alloc, by)?;
+    put_unlike(others, found.as_str(), wanted)
+}
+
 /// What is told otherwise than said, where these things are done one after the other.
 fn others(stack: &mut Stack, alloc: Global, moves: &[Told]) -> Result<String, Fail>
     requires statics { (db : Database) × AreStatics stack.old.basis.code db }
 {
     let mut others = String::new(alloc);
     for (by, wanted) in moves {
-        let found = moved(stack, alloc, *by)?;
-        if found.as_str() != *wanted {
-            write!(others, "{found} in place of {wanted}, ")?;
-        }
+        put_moved(&mut others, stack, alloc, *by, wanted)?;
     }
     Ok(others)
 }

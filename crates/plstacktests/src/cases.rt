@@ -36,14 +36,31 @@ fn moved(stack: &mut Stack, alloc: Global, by: Move) -> Result<String, Fail> {
     Ok(format!(in alloc; "{word}; {state}")?)
 }
 
+/// Adds what was found, where it is not what is wanted.
+pub(crate) fn put_unlike(others: &mut String, found: &str, wanted: &str) -> Result<(), Fail> {
+    if found != wanted {
+        write!(others, "{found} in place of {wanted}, ")?;
+    }
+    Ok(())
+}
+
+/// Does it, and adds what it tells, where that is not what is wanted.
+fn put_moved(
+    others: &mut String,
+    stack: &mut Stack,
+    alloc: Global,
+    by: Move,
+    wanted: &str,
+) -> Result<(), Fail> {
+    let found = moved(stack, alloc, by)?;
+    put_unlike(others, found.as_str(), wanted)
+}
+
 /// What is told otherwise than said, where these things are done one after the other.
 pub(crate) fn others(stack: &mut Stack, alloc: Global, moves: &[Told]) -> Result<String, Fail> {
     let mut others = String::new(alloc);
     for (by, wanted) in moves {
-        let found = moved(stack, alloc, *by)?;
-        if found.as_str() != *wanted {
-            write!(others, "{found} in place of {wanted}, ")?;
-        }
+        put_moved(&mut others, stack, alloc, *by, wanted)?;
     }
     Ok(others)
 }

@@ -3,6 +3,7 @@ ghost use Rattle.std.specs.Prelude.{◌≡◌, IfOk, OnOk};
 ghost use Rattle.plcells.specs.Store.{IsValue};
 ghost use Rattle.plstack.specs.Frames.{IsLeftSeen, IsSpotSeen};
 
+use crate::cases::put_unlike;
 use plcells::cell::Cell;
 use plclause::clause::Clause;
 use plevent::ClauseName;
@@ -18,7 +19,6 @@ use plstackmade::made::begun;
 use plstackmade::state::{number, state};
 use plviews::{Reach, View};
 use std::alloc::Global;
-use std::fmt::Write;
 use std::string::String;
 use std::test::Fail;
 
@@ -242,9 +242,7 @@ fn others(
     let mut others = String::new(alloc);
     for (by, wanted) in moves {
         let found = moved(stack, alloc, clauses, *by)?;
-        if found.as_str() != *wanted {
-            write!(others, "{found} in place of {wanted}, ")?;
-        }
+        put_unlike(&mut others, found.as_str(), wanted)?;
     }
     Ok(others)
 }

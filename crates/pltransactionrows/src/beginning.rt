@@ -1,7 +1,6 @@
 //! What a transaction and a snapshot leave behind, and what is seen inside.
-use crate::row::{Case, TWO};
+use crate::row::{Case, TWO, first_wrong};
 use plhist::Status;
-use plrow::row::first_wrong;
 use std::test::Fail;
 
 /// Ends with success.
@@ -315,6 +314,8 @@ const ENDED: [&[Case]; 9] = [
 
 #[test]
 fn ended(rt: HostRuntime) -> Result<(), Fail> {
-    assert_eq!(rt; first_wrong(&rt, rt.alloc(), &ENDED)?, None);
+    for rows in ENDED {
+        assert_eq!(rt; first_wrong(&rt, rt.alloc(), rows)?, None);
+    }
     Ok(())
 }

@@ -1,7 +1,6 @@
 //! A call that is open keeps the clauses that it saw when it began.
-use crate::row::{Case, TWO};
+use crate::row::{Case, TWO, first_wrong};
 use plhist::Status;
-use plrow::row::first_wrong;
 use std::test::Fail;
 
 /// Calls that were open before a transaction or a snapshot began.
@@ -392,8 +391,14 @@ const INNER: [&[Case]; 4] = [
 
 #[test]
 fn rows(rt: HostRuntime) -> Result<(), Fail> {
-    assert_eq!(rt; first_wrong(&rt, rt.alloc(), &OUTSIDE)?, None);
-    assert_eq!(rt; first_wrong(&rt, rt.alloc(), &INSIDE)?, None);
-    assert_eq!(rt; first_wrong(&rt, rt.alloc(), &INNER)?, None);
+    for rows in OUTSIDE {
+        assert_eq!(rt; first_wrong(&rt, rt.alloc(), rows)?, None);
+    }
+    for rows in INSIDE {
+        assert_eq!(rt; first_wrong(&rt, rt.alloc(), rows)?, None);
+    }
+    for rows in INNER {
+        assert_eq!(rt; first_wrong(&rt, rt.alloc(), rows)?, None);
+    }
     Ok(())
 }

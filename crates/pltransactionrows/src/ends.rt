@@ -1,8 +1,7 @@
 //! Ends of the run inside, the limit of steps, and goals that are none.
-use crate::row::{Case, Limited, TWO};
+use crate::row::{Case, Limited, TWO, first_wrong, first_wrong_limited};
 use plhist::Status;
 use plload::error::RefusalKind;
-use plrow::row::first_wrong;
 use std::test::Fail;
 
 /// halt/1 inside, where nothing is published, and behind an end.
@@ -361,9 +360,17 @@ const LIMITED: [&[Limited]; 2] = [
 
 #[test]
 fn rows(rt: HostRuntime) -> Result<(), Fail> {
-    assert_eq!(rt; first_wrong(&rt, rt.alloc(), &HALTED)?, None);
-    assert_eq!(rt; first_wrong(&rt, rt.alloc(), &NO_GOALS)?, None);
-    assert_eq!(rt; first_wrong(&rt, rt.alloc(), &FIXED)?, None);
-    assert_eq!(rt; first_wrong(&rt, rt.alloc(), &LIMITED)?, None);
+    for rows in HALTED {
+        assert_eq!(rt; first_wrong(&rt, rt.alloc(), rows)?, None);
+    }
+    for rows in NO_GOALS {
+        assert_eq!(rt; first_wrong(&rt, rt.alloc(), rows)?, None);
+    }
+    for rows in FIXED {
+        assert_eq!(rt; first_wrong(&rt, rt.alloc(), rows)?, None);
+    }
+    for rows in LIMITED {
+        assert_eq!(rt; first_wrong_limited(&rt, rt.alloc(), rows)?, None);
+    }
     Ok(())
 }

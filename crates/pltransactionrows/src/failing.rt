@@ -1,7 +1,6 @@
 //! Transactions and snapshots whose goal fails.
-use crate::row::{Case, TWO};
+use crate::row::{Case, TWO, first_wrong};
 use plhist::Status;
-use plrow::row::first_wrong;
 use std::test::Fail;
 
 /// Ends by failure.
@@ -222,6 +221,8 @@ const FAILED: [&[Case]; 7] = [
 
 #[test]
 fn failed(rt: HostRuntime) -> Result<(), Fail> {
-    assert_eq!(rt; first_wrong(&rt, rt.alloc(), &FAILED)?, None);
+    for rows in FAILED {
+        assert_eq!(rt; first_wrong(&rt, rt.alloc(), rows)?, None);
+    }
     Ok(())
 }

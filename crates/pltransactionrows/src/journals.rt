@@ -1,6 +1,5 @@
 //! What runs add to the journal: how many batches, of how many updates, with which names; and what they ask.
-use crate::row::{Journaled, Spent, TWO};
-use plrow::row::first_wrong;
+use crate::row::{Journaled, Spent, TWO, first_wrong_journal, first_wrong_spent};
 use std::test::Fail;
 
 /// Batches.
@@ -507,10 +506,20 @@ const SPENT: [&[Spent]; 2] = [
 
 #[test]
 fn rows(rt: HostRuntime) -> Result<(), Fail> {
-    assert_eq!(rt; first_wrong(&rt, rt.alloc(), &BATCHES)?, None);
-    assert_eq!(rt; first_wrong(&rt, rt.alloc(), &NAMES)?, None);
-    assert_eq!(rt; first_wrong(&rt, rt.alloc(), &UPDATES)?, None);
-    assert_eq!(rt; first_wrong(&rt, rt.alloc(), &ASKED)?, None);
-    assert_eq!(rt; first_wrong(&rt, rt.alloc(), &SPENT)?, None);
+    for rows in BATCHES {
+        assert_eq!(rt; first_wrong_journal(&rt, rt.alloc(), rows)?, None);
+    }
+    for rows in NAMES {
+        assert_eq!(rt; first_wrong_journal(&rt, rt.alloc(), rows)?, None);
+    }
+    for rows in UPDATES {
+        assert_eq!(rt; first_wrong_journal(&rt, rt.alloc(), rows)?, None);
+    }
+    for rows in ASKED {
+        assert_eq!(rt; first_wrong_journal(&rt, rt.alloc(), rows)?, None);
+    }
+    for rows in SPENT {
+        assert_eq!(rt; first_wrong_spent(&rt, rt.alloc(), rows)?, None);
+    }
     Ok(())
 }

@@ -1,7 +1,6 @@
 //! Look-ups by the first argument, with own clauses in front of the others and behind them.
-use crate::row::Case;
+use crate::row::{Case, first_wrong};
 use plhist::Status;
-use plrow::row::first_wrong;
 use std::test::Fail;
 
 /// Clauses with atoms, a compound, an integer and a variable as their first arguments.
@@ -220,6 +219,8 @@ const KEYED: [&[Case]; 7] = [
 
 #[test]
 fn keyed(rt: HostRuntime) -> Result<(), Fail> {
-    assert_eq!(rt; first_wrong(&rt, rt.alloc(), &KEYED)?, None);
+    for rows in KEYED {
+        assert_eq!(rt; first_wrong(&rt, rt.alloc(), rows)?, None);
+    }
     Ok(())
 }

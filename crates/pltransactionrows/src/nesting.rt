@@ -1,7 +1,6 @@
 //! Transactions and snapshots inside of each other.
-use crate::row::{Case, TWO};
+use crate::row::{Case, TWO, first_wrong};
 use plhist::Status;
-use plrow::row::first_wrong;
 use std::test::Fail;
 
 /// Inner ends.
@@ -323,6 +322,8 @@ const NESTED: [&[Case]; 10] = [
 
 #[test]
 fn nested(rt: HostRuntime) -> Result<(), Fail> {
-    assert_eq!(rt; first_wrong(&rt, rt.alloc(), &NESTED)?, None);
+    for rows in NESTED {
+        assert_eq!(rt; first_wrong(&rt, rt.alloc(), rows)?, None);
+    }
     Ok(())
 }

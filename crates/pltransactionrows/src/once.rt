@@ -1,7 +1,6 @@
 //! The goal is run once, opaque to cuts, and is not entered again.
-use crate::row::{Case, TWO};
+use crate::row::{Case, TWO, first_wrong};
 use plhist::Status;
-use plrow::row::first_wrong;
 use std::test::Fail;
 
 /// One solution, cuts, and no way back.
@@ -273,6 +272,8 @@ const ONCE: [&[Case]; 8] = [
 
 #[test]
 fn once(rt: HostRuntime) -> Result<(), Fail> {
-    assert_eq!(rt; first_wrong(&rt, rt.alloc(), &ONCE)?, None);
+    for rows in ONCE {
+        assert_eq!(rt; first_wrong(&rt, rt.alloc(), rows)?, None);
+    }
     Ok(())
 }

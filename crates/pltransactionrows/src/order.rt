@@ -1,7 +1,6 @@
 //! The order of clauses: those in front, the latest first, and those behind.
-use crate::row::{Case, TWO};
+use crate::row::{Case, TWO, first_wrong};
 use plhist::Status;
-use plrow::row::first_wrong;
 use std::test::Fail;
 
 /// asserta/1 and assertz/1 in one batch.
@@ -138,6 +137,8 @@ const ORDERED: [&[Case]; 5] = [
 
 #[test]
 fn ordered(rt: HostRuntime) -> Result<(), Fail> {
-    assert_eq!(rt; first_wrong(&rt, rt.alloc(), &ORDERED)?, None);
+    for rows in ORDERED {
+        assert_eq!(rt; first_wrong(&rt, rt.alloc(), rows)?, None);
+    }
     Ok(())
 }

@@ -1,7 +1,6 @@
 //! clause/2, retractall/1, dynamic/1 and the errors of all predicates on clauses, inside.
-use crate::row::{Case, TWO};
+use crate::row::{Case, TWO, first_wrong};
 use plhist::Status;
-use plrow::row::first_wrong;
 use std::test::Fail;
 
 /// clause/2 inside.
@@ -315,8 +314,14 @@ const DECLARED: [&[Case]; 5] = [
 
 #[test]
 fn rows(rt: HostRuntime) -> Result<(), Fail> {
-    assert_eq!(rt; first_wrong(&rt, rt.alloc(), &TOLD)?, None);
-    assert_eq!(rt; first_wrong(&rt, rt.alloc(), &ALL_ERASED)?, None);
-    assert_eq!(rt; first_wrong(&rt, rt.alloc(), &DECLARED)?, None);
+    for rows in TOLD {
+        assert_eq!(rt; first_wrong(&rt, rt.alloc(), rows)?, None);
+    }
+    for rows in ALL_ERASED {
+        assert_eq!(rt; first_wrong(&rt, rt.alloc(), rows)?, None);
+    }
+    for rows in DECLARED {
+        assert_eq!(rt; first_wrong(&rt, rt.alloc(), rows)?, None);
+    }
     Ok(())
 }

@@ -1,8 +1,8 @@
 //! Rows, and what runs them.
 use crate::acts::added;
 use plhist::Status;
-use plrow::row::{Check, comes_to, reported};
-use std::alloc::Global;
+use plrow::row::{comes_to, reported};
+use std::alloc::{AllocError, Global};
 use std::sync::Wait;
 use std::test::Fail;
 use std::thread::Threads;
@@ -38,36 +38,68 @@ pub struct Spent(
 /// A procedure with two clauses, and what writes all that it has.
 pub const TWO: &str = ":- dynamic p/1. p(1). p(2). all :- findall(X, p(X), L), writeq(L).";
 
-impl Check for Case {
-    fn is_right<R: Threads + Wait + Sync>(&self, rt: &R, alloc: Global) -> Result<bool, Fail> {
-        let Case(text, goal, output, status) = self;
+/// Runs rows: the place of the first that comes to anything else.
+pub fn first_wrong<R: Threads + Wait + Sync>(
+    rt: &R,
+    alloc: Global,
+    rows: &[Case],
+) -> Result<Option<usize>, AllocError> {
+    for (place, row) in rows.iter().enumerate() {
+        let Case(text, goal, output, status) = row;
         let words = ["prolog", "run", "--goal", goal, "P"];
-        Ok(comes_to(rt, alloc, &words, text, (output, status))?)
+        if !comes_to(rt, alloc, &words, text, (output, status))? {
+            return Ok(Some(place));
+        }
     }
+    Ok(None)
 }
 
-impl Check for Limited {
-    fn is_right<R: Threads + Wait + Sync>(&self, rt: &R, alloc: Global) -> Result<bool, Fail> {
-        let Limited(steps, text, goal, output, status) = self;
+/// The same with limits of steps.
+pub fn first_wrong_limited<R: Threads + Wait + Sync>(
+    rt: &R,
+    alloc: Global,
+    rows: &[Limited],
+) -> Result<Option<usize>, AllocError> {
+    for (place, row) in rows.iter().enumerate() {
+        let Limited(steps, text, goal, output, status) = row;
         let words = ["prolog", "run", "--steps", steps, "--goal", goal, "P"];
-        Ok(comes_to(rt, alloc, &words, text, (output, status))?)
+        if !comes_to(rt, alloc, &words, text, (output, status))? {
+            return Ok(Some(place));
+        }
     }
+    Ok(None)
 }
 
-impl Check for Journaled {
-    fn is_right<R: Threads + Wait + Sync>(&self, rt: &R, alloc: Global) -> Result<bool, Fail> {
-        let Journaled(text, goal, journal) = self;
+/// The same with journals.
+pub fn first_wrong_journal<R: Threads + Wait + Sync>(
+    rt: &R,
+    alloc: Global,
+    rows: &[Journaled],
+) -> Result<Option<usize>, Fail> {
+    for (place, row) in rows.iter().enumerate() {
+        let Journaled(text, goal, journal) = row;
         let words = ["prolog", "run", "--goal", goal, "P"];
-        adds(rt, alloc, &words, text, journal)
+        if !adds(rt, alloc, &words, text, journal)? {
+            return Ok(Some(place));
+        }
     }
+    Ok(None)
 }
 
-impl Check for Spent {
-    fn is_right<R: Threads + Wait + Sync>(&self, rt: &R, alloc: Global) -> Result<bool, Fail> {
-        let Spent(steps, text, goal, journal) = self;
+/// The same with journals and limits of steps.
+pub fn first_wrong_spent<R: Threads + Wait + Sync>(
+    rt: &R,
+    alloc: Global,
+    rows: &[Spent],
+) -> Result<Option<usize>, Fail> {
+    for (place, row) in rows.iter().enumerate() {
+        let Spent(steps, text, goal, journal) = row;
         let words = ["prolog", "run", "--steps", steps, "--goal", goal, "P"];
-        adds(rt, alloc, &words, text, journal)
+        if !adds(rt, alloc, &words, text, journal)? {
+            return Ok(Some(place));
+        }
     }
+    Ok(None)
 }
 
 /// Whether what the words make of a text adds this to the journal.

@@ -1,7 +1,6 @@
 //! Balls that pass a transaction or a snapshot, and those that do not.
-use crate::row::{Case, TWO};
+use crate::row::{Case, TWO, first_wrong};
 use plhist::Status;
-use plrow::row::first_wrong;
 use std::test::Fail;
 
 /// Exceptions.
@@ -344,6 +343,8 @@ const THROWN: [&[Case]; 11] = [
 
 #[test]
 fn thrown(rt: HostRuntime) -> Result<(), Fail> {
-    assert_eq!(rt; first_wrong(&rt, rt.alloc(), &THROWN)?, None);
+    for rows in THROWN {
+        assert_eq!(rt; first_wrong(&rt, rt.alloc(), rows)?, None);
+    }
     Ok(())
 }

@@ -1,7 +1,6 @@
 //! Inside of other constructs, and around them.
-use crate::row::{Case, TWO};
+use crate::row::{Case, TWO, first_wrong};
 use plhist::Status;
-use plrow::row::first_wrong;
 use std::test::Fail;
 
 /// findall/3, catch/3, `\+`, if-then-else, call/N, the library.
@@ -313,6 +312,8 @@ const WITHIN: [&[Case]; 10] = [
 
 #[test]
 fn within(rt: HostRuntime) -> Result<(), Fail> {
-    assert_eq!(rt; first_wrong(&rt, rt.alloc(), &WITHIN)?, None);
+    for rows in WITHIN {
+        assert_eq!(rt; first_wrong(&rt, rt.alloc(), rows)?, None);
+    }
     Ok(())
 }

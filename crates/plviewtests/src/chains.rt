@@ -1,12 +1,12 @@
 //! Records that are linked with those of their class (plrecords).
 use crate::made::{fact, indicator, key, name};
-use plevent::Key;
 use plrecords::ends::{Ends, ends_of, restore_ends, set_ends};
 use plrecords::leap::near;
 use plrecords::links::{Added, Links, add};
 use plrecords::part::Part;
 use plrecords::slot::Slots;
 use plrecords::starts::Starts;
+use plterm::error::TermError;
 use std::alloc::{AllocError, Global};
 use std::collections::HashMap;
 use std::test::Fail;
@@ -35,61 +35,51 @@ fn put(chain: &mut Chain, added: Added) -> Result<Ends, AllocError> {
 /// The number of a record, the place of its batch, and whether it is put before all others.
 const RECORDS: [(u32, u64, bool); 4] = [(0, 3, false), (1, 4, false), (2, 5, true), (3, 6, false)];
 
-/// A chain of these four records, numbered from 0 on.
-fn four(alloc: Global) -> Result<Chain, AllocError> {
-    let mut made = Chain {
-        links: Links::new(alloc),
-        index: HashMap::new(alloc),
-    };
-    for (number, place, front) in RECORDS {
+/// Puts these four records into a chain without records, numbered from 0 on.
+fn put_four(chain: &mut Chain) -> Result<(), AllocError> {
+    for (number, place, front) in &RECORDS {
         let added = Added {
-            number,
-            front,
-            place,
+            number: *number,
+            front: *front,
+            place: *place,
         };
-        put(&mut made, added)?;
+        put(chain, added)?;
     }
-    Ok(made)
+    Ok(())
 }
 
-/// The record to which a walk at `g` comes behind one, past those that are erased by then.
-fn behind(links: &Links, number: usize, g: u64) -> Result<Option<usize>, Fail> {
+/// Whether a walk at 9 comes to this record behind the one of a number, past those that are erased by then.
+fn is_behind(links: &Links, number: usize, wanted: Option<usize>) -> bool {
     if number >= links.places.len() {
-        return Err("no record".into());
+        return false;
     }
     let end = match links.places[number].run {
-        Some(run) if run.latest < g => run.last,
+        Some(run) if run.latest < 9 => run.last,
         Some(_) | None => number,
     };
-    if end >= links.next.len() {
-        return Err("no link".into());
-    }
-    Ok(links.next_behind(number, g))
+    end < links.next.len() && links.next_behind(number, 9) == wanted
 }
 
-#[test]
-fn chain_with_two_sides(rt: HostRuntime) -> Result<(), Fail> {
-    let made = four(rt.alloc())?;
-    let ends = ends_of(&made.index, &CLASS);
-    assert!(rt; ends.is_since(4) && !ends.is_since(3));
-    assert!(rt; (ends.first(true), ends.first(false)) == (Some(2), Some(0)));
-    assert!(rt; (ends.newest(true), ends.newest(false)) == (Some(2), Some(3)));
-    assert!(rt; behind(&made.links, 0, 9)? == Some(1));
-    assert!(rt; behind(&made.links, 1, 9)? == Some(3));
-    assert!(rt; behind(&made.links, 2, 9)?.is_none());
-    Ok(())
+/// Whether the ends of the class are those of a chain with two sides.
+fn has_two_sides(chain: &Chain) -> bool {
+    let ends = ends_of(&chain.index, &CLASS);
+    ends.is_since(4)
+        && !ends.is_since(3)
+        && (ends.first(true), ends.first(false)) == (Some(2), Some(0))
+        && (ends.newest(true), ends.newest(false)) == (Some(2), Some(3))
 }
 
-// The record 1 is erased by the batch at 7: a walk that sees this batch passes over it, and an earlier one does not.
-#[test]
-fn erased_record_is_passed_over(rt: HostRuntime) -> Result<(), Fail> {
-    let mut made = four(rt.alloc())?;
-    let buried = made.links.bury(1, 7);
-    assert!(rt; behind(&made.links, 1, 9)? == Some(3));
-    assert!(rt; near(&made.links, false, 3, 0, 9) < 4);
-    made.links.unbury(&buried);
-    assert!(rt; behind(&made.links, 0, 9)? == Some(1));
-    Ok(())
+/// Whether a walk comes to each record of its side.
+fn is_walked(links: &Links) -> bool {
+    is_behind(links, 0, Some(1)) && is_behind(links, 1, Some(3)) && is_behind(links, 2, None)
+}
+
+/// Whether a walk passes over the record 1 while the batch at 7 erases it, and comes to it once that is taken back.
+fn is_passed_over(links: &mut Links) -> bool {
+    let buried = links.bury(1, 7);
+    let passed = is_behind(links, 1, Some(3)) && near(links, false, 3, 0, 9) < 4;
+    links.unbury(&buried);
+    passed && is_behind(links, 0, Some(1))
 }
 
 /// Takes the last record from a chain to which it was added behind.
@@ -100,30 +90,56 @@ fn drop_back(chain: &mut Chain, ends: Ends) {
     }
 }
 
-#[test]
-fn last_record_is_taken_back(rt: HostRuntime) -> Result<(), Fail> {
-    let mut made = four(rt.alloc())?;
+/// Whether a last record is behind the record 3 until it is taken back.
+fn is_taken_back(chain: &mut Chain) -> Result<bool, AllocError> {
     let added = Added {
         number: 4,
         front: false,
         place: 8,
     };
-    let before = put(&mut made, added)?;
-    assert!(rt; behind(&made.links, 3, 9)? == Some(4));
-    drop_back(&mut made, before);
-    assert!(rt; behind(&made.links, 3, 9)?.is_none());
-    assert!(rt; ends_of(&made.index, &CLASS).newest(false) == Some(3));
-    Ok(())
+    let before = put(chain, added)?;
+    let was_behind = is_behind(&chain.links, 3, Some(4));
+    drop_back(chain, before);
+    let is_last = ends_of(&chain.index, &CLASS).newest(false) == Some(3);
+    Ok(was_behind && is_behind(&chain.links, 3, None) && is_last)
+}
+
+/// Whether the ends that are set for one more class are its own.
+fn has_set_ends(chain: &mut Chain) -> Result<bool, AllocError> {
+    let ends = ends_of(&chain.index, &CLASS);
+    chain.index.reserve(1)?;
+    set_ends(&mut chain.index, 8, ends);
+    Ok(
+        ends_of(&chain.index, &8).first(true) == Some(2)
+            && ends_of(&chain.index, &9).first(true).is_none(),
+    )
+}
+
+/// Whether each of these holds of four records, one after the other.
+fn held_in(chain: &mut Chain) -> Result<[bool; 5], AllocError> {
+    put_four(chain)?;
+    Ok([
+        has_two_sides(chain),
+        is_walked(&chain.links),
+        is_passed_over(&mut chain.links),
+        is_taken_back(chain)?,
+        has_set_ends(chain)?,
+    ])
+}
+
+/// Whether each of these holds.
+fn held(alloc: Global) -> Result<[bool; 5], AllocError> {
+    let mut chain = Chain {
+        links: Links::new(alloc),
+        index: HashMap::new(alloc),
+    };
+    held_in(&mut chain)
 }
 
 #[test]
-fn ends_that_are_set(rt: HostRuntime) -> Result<(), Fail> {
-    let mut made = four(rt.alloc())?;
-    let ends = ends_of(&made.index, &CLASS);
-    made.index.reserve(1)?;
-    set_ends(&mut made.index, 8, ends);
-    assert!(rt; ends_of(&made.index, &8).first(true) == Some(2));
-    assert!(rt; ends_of(&made.index, &9).first(true).is_none());
+fn chain_of_four(rt: HostRuntime) -> Result<(), Fail> {
+    let found = held(rt.alloc())?;
+    assert!(rt; found == [true; 5], "{found:?}");
     Ok(())
 }
 
@@ -138,13 +154,23 @@ const PARTS: [(bool, Option<usize>, Option<usize>, bool); 7] = [
     (true, Some(3), None, false),
 ];
 
-#[test]
-fn parts_of_sides(rt: HostRuntime) -> Result<(), Fail> {
-    for (front, behind, number, belongs) in PARTS {
-        let part = Part { front, behind };
-        assert!(rt; part.reaches(number) == belongs);
+/// The place of the first of these rows that is wrong.
+fn wrong_part() -> Option<usize> {
+    for (place, (front, behind, number, belongs)) in PARTS.iter().enumerate() {
+        let part = Part {
+            front: *front,
+            behind: *behind,
+        };
+        if part.reaches(*number) != *belongs {
+            return Some(place);
+        }
     }
-    Ok(())
+    None
+}
+
+#[test]
+fn parts_of_sides(rt: HostRuntime) {
+    assert_eq!(rt; wrong_part(), None);
 }
 
 /// The first argument of a goal, that of a fact, and whether the slot of the goal's key is that of the fact.
@@ -155,29 +181,52 @@ const SLOTS: [(Option<i64>, Option<i64>, bool); 4] = [
     (Some(1), None, false),
 ];
 
-/// Whether the slot of a key is that of a fact of p.
-fn is_slot(alloc: Global, key: &Key, first: Option<i64>) -> Result<bool, Fail> {
-    let slots = Slots::new(&indicator(alloc, 1)?);
+/// The slots of p/1.
+fn slots(alloc: Global) -> Result<Slots, AllocError> {
+    Ok(Slots::new(&indicator(alloc, 1)?))
+}
+
+/// Whether the slot of the goal's key is that of the fact.
+fn is_slot(alloc: Global, goal: Option<i64>, first: Option<i64>) -> Result<bool, TermError> {
+    let slots = slots(alloc)?;
     let fact = fact(alloc, first)?;
-    Ok(slots.of_key(key) == slots.of_head(&fact.head().root()))
+    Ok(slots.of_key(&key(goal)) == slots.of_head(&fact.head().root()))
+}
+
+/// The place of the first of these rows that is wrong.
+fn wrong_slot(alloc: Global) -> Result<Option<usize>, TermError> {
+    for (place, (goal, first, same)) in SLOTS.iter().enumerate() {
+        if is_slot(alloc, *goal, *first)? != *same {
+            return Ok(Some(place));
+        }
+    }
+    Ok(None)
 }
 
 #[test]
 fn slots_of_keys_and_facts(rt: HostRuntime) -> Result<(), Fail> {
-    for (goal, first, same) in SLOTS {
-        assert!(rt; is_slot(rt.alloc(), &key(goal), first)? == same);
-    }
+    assert_eq!(rt; wrong_slot(rt.alloc())?, None);
     Ok(())
+}
+
+/// What is guessed of the start of the latest place, and of an earlier one once the latest are forgotten.
+fn guessed(starts: &mut Starts) -> (usize, usize) {
+    starts.note(name(3, 0), 0);
+    starts.note(name(5, 0), 1);
+    let latest = starts.guess(name(5, 0), 2);
+    starts.forget_above(3);
+    (latest, starts.guess(name(3, 0), 1))
+}
+
+/// The same of starts of which nothing is known yet.
+fn guessed_anew(alloc: Global) -> (usize, usize) {
+    let mut starts = Starts::new(alloc);
+    guessed(&mut starts)
 }
 
 // The records of the latest place are the last ones.
 #[test]
 fn last_record_is_found_at_once(rt: HostRuntime) -> Result<(), Fail> {
-    let mut starts = Starts::new(rt.alloc());
-    starts.note(name(3, 0), 0);
-    starts.note(name(5, 0), 1);
-    assert!(rt; starts.guess(name(5, 0), 2) == 1);
-    starts.forget_above(3);
-    assert!(rt; starts.guess(name(3, 0), 1) == 0);
+    assert!(rt; guessed_anew(rt.alloc()) == (1, 0));
     Ok(())
 }

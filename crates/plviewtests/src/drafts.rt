@@ -3,6 +3,7 @@ ghost use Rattle.std.specs.Prelude.{◌≡◌, ◌+◌, ◌<◌, ◌^◌, OnOk};
 ghost use Rattle.plstore.specs.Cut.{cut};
 
 use crate::made::{Change, indicator, key, name, update};
+use plevent::{ClauseName, Update};
 use plrecords::Cursor;
 use plstore::Draft;
 use plterm::error::TermError;
@@ -19,25 +20,35 @@ const CHANGES: [Change; 5] = [
 ];
 
 /// Makes an update at a place that is above those of all before it.
+fn put(draft: &mut Draft, update: &Update, place: u64) -> Result<(), TermError>
+    requires below { cut place draft.old ≡ draft.old }
+    requires room { place < 2 ^ 63 }
+    ensures { OnOk result (cut (place + 1) draft.new ≡ draft.new) }
+{
+    draft.add(update, place)?;
+    Ok(())
+}
+
+/// Makes the update of a change there.
 fn add(alloc: Global, draft: &mut Draft, place: u64, change: Change) -> Result<(), TermError>
     requires below { cut place draft.old ≡ draft.old }
     requires room { place < 2 ^ 63 }
     ensures { OnOk result (cut (place + 1) draft.new ≡ draft.new) }
 {
     let update = update(alloc, change)?;
-    draft.add(&update, place)?;
-    Ok(())
+    put(draft, &update, place)
 }
 
-/// The draft of all these updates.
-fn five(alloc: Global) -> Result<Draft, TermError> {
-    let mut draft = Draft::new(alloc);
+/// Makes all these updates in a draft without clauses.
+fn make_five(alloc: Global, draft: &mut Draft) -> Result<(), TermError>
+    requires { cut 0 draft.old ≡ draft.old }
+{
     let mut place = 0;
-    for change in CHANGES {
-        add(alloc, &mut draft, place, change)?;
+    for change in &CHANGES {
+        add(alloc, draft, place, *change)?;
         place += 1;
     }
-    Ok(draft)
+    Ok(())
 }
 
 /// A clause by its place, a time, and whether it is alive then.
@@ -51,13 +62,14 @@ const ALIVE: [(u64, u64, bool); 7] = [
     (3, 5, false),
 ];
 
-#[test]
-fn clauses_alive(rt: HostRuntime) -> Result<(), Fail> {
-    let draft = five(rt.alloc())?;
-    for (place, g, alive) in ALIVE {
-        assert!(rt; draft.alive(g, name(place, 0)) == alive, "{place} at {g}");
+/// The place of the first of these rows that is wrong.
+fn wrong_alive(draft: &Draft) -> Option<usize> {
+    for (row, (place, g, alive)) in ALIVE.iter().enumerate() {
+        if draft.alive(*g, name(*place, 0)) != *alive {
+            return Some(row);
+        }
     }
-    Ok(())
+    None
 }
 
 /// A name, and whether a clause was made with it, alive or not.
@@ -69,16 +81,22 @@ const MADE: [(u64, u64, bool); 5] = [
     (4, 0, false),
 ];
 
-#[test]
-fn clauses_by_name(rt: HostRuntime) -> Result<(), Fail> {
-    let draft = five(rt.alloc())?;
-    for (place, number, is_made) in MADE {
-        assert!(rt;
-            draft.clause(name(place, number)).is_some() == is_made,
-            "{place}.{number}"
-        );
+/// The place of the first of these rows that is wrong.
+fn wrong_made(draft: &Draft) -> Option<usize> {
+    for (row, (place, number, is_made)) in MADE.iter().enumerate() {
+        if draft.clause(name(*place, *number)).is_some() != *is_made {
+            return Some(row);
+        }
     }
-    Ok(())
+    None
+}
+
+/// The place of a clause, if there is one.
+fn place_of(name: Option<ClauseName>) -> Option<u64> {
+    match name {
+        Some(name) => Some(name.place),
+        None => None,
+    }
 }
 
 /// The place of the first clause of p/1 that was put behind all others and may be for a goal of a key.
@@ -89,8 +107,7 @@ fn first_back(
     first: Option<i64>,
 ) -> Result<Option<u64>, AllocError> {
     let pred = indicator(alloc, 1)?;
-    let name = draft.first_back(g, &pred, &key(first));
-    Ok(name.map(|name| name.place))
+    Ok(place_of(draft.first_back(g, &pred, &key(first))))
 }
 
 /// A time, a goal's first argument, and the place of that clause: of 0 and 2, of which 0 is erased at 3.
@@ -105,16 +122,14 @@ const BACKS: [(u64, Option<i64>, Option<u64>); 8] = [
     (5, None, Some(2)),
 ];
 
-#[test]
-fn clauses_behind(rt: HostRuntime) -> Result<(), Fail> {
-    let draft = five(rt.alloc())?;
-    for (g, first, place) in BACKS {
-        assert!(rt;
-            first_back(rt.alloc(), &draft, g, first)? == place,
-            "{first:?} at {g}"
-        );
+/// The place of the first of these rows that is wrong.
+fn wrong_back(alloc: Global, draft: &Draft) -> Result<Option<usize>, AllocError> {
+    for (row, (g, first, place)) in BACKS.iter().enumerate() {
+        if first_back(alloc, draft, *g, *first)? != *place {
+            return Ok(Some(row));
+        }
     }
-    Ok(())
+    Ok(None)
 }
 
 /// The place of the next clause of p/1 that may be for a goal of a key, behind the clause at a place.
@@ -128,8 +143,7 @@ fn next(
         Some(place) => Cursor::After(name(place, 0)),
     };
     let pred = indicator(alloc, 1)?;
-    let name = draft.next_like(g, &pred, &key(first), cursor);
-    Ok(name.map(|name| name.place))
+    Ok(place_of(draft.next_like(g, &pred, &key(first), cursor)))
 }
 
 /// A time, a goal's first argument, the place behind which is looked, and the place of what is found. The walk at 3 is 1, 0, 2.
@@ -144,13 +158,14 @@ const NEXT: [((u64, Option<i64>, Option<u64>), Option<u64>); 8] = [
     ((4, None, Some(0)), None),
 ];
 
-#[test]
-fn walks(rt: HostRuntime) -> Result<(), Fail> {
-    let draft = five(rt.alloc())?;
-    for (asked, place) in NEXT {
-        assert!(rt; next(rt.alloc(), &draft, asked)? == place, "{asked:?}");
+/// The place of the first of these rows that is wrong.
+fn wrong_next(alloc: Global, draft: &Draft) -> Result<Option<usize>, AllocError> {
+    for (row, (asked, place)) in NEXT.iter().enumerate() {
+        if next(alloc, draft, *asked)? != *place {
+            return Ok(Some(row));
+        }
     }
-    Ok(())
+    Ok(None)
 }
 
 /// The arity of p, a time, and whether some update before it named the procedure.
@@ -162,20 +177,31 @@ const NAMED: [(u16, u64, bool); 5] = [
     (3, 5, false),
 ];
 
-#[test]
-fn procedures(rt: HostRuntime) -> Result<(), Fail> {
-    let draft = five(rt.alloc())?;
-    for (arity, g, is_named) in NAMED {
-        let pred = indicator(rt.alloc(), arity)?;
-        assert!(rt; draft.exists(g, &pred) == is_named, "p/{arity} at {g}");
+/// The place of the first of these rows that is wrong.
+fn wrong_name(alloc: Global, draft: &Draft) -> Result<Option<usize>, AllocError> {
+    for (row, (arity, g, is_named)) in NAMED.iter().enumerate() {
+        if draft.exists(*g, &indicator(alloc, *arity)?) != *is_named {
+            return Ok(Some(row));
+        }
     }
-    Ok(())
+    Ok(None)
 }
 
-/// What is told at 5 of the draft that is cut at 2: whether the clauses at 0 and at 2 are alive, and whether p/2 is there.
-fn cut_at_two(alloc: Global) -> Result<(bool, bool, bool), TermError> {
-    let mut draft = five(alloc)?;
-    draft.cut(2);
+/// The first wrong row of each table.
+fn wrong(alloc: Global, draft: &Draft) -> Result<[Option<usize>; 5], AllocError> {
+    Ok([
+        wrong_alive(draft),
+        wrong_made(draft),
+        wrong_back(alloc, draft)?,
+        wrong_next(alloc, draft)?,
+        wrong_name(alloc, draft)?,
+    ])
+}
+
+/// Whether the clauses at 0 and at 2 are alive at 5, and whether p/2 is there.
+type Left = (bool, bool, bool);
+
+fn left(alloc: Global, draft: &Draft) -> Result<Left, AllocError> {
     let declared = indicator(alloc, 2)?;
     Ok((
         draft.alive(5, name(0, 0)),
@@ -184,9 +210,28 @@ fn cut_at_two(alloc: Global) -> Result<(bool, bool, bool), TermError> {
     ))
 }
 
-// The clause at 2, the erasure at 3 and the declaration at 4 are taken back.
+/// The first wrong row of each table, once all these updates are made, and what is left once the draft is cut at 2.
+type Told = ([Option<usize>; 5], Left);
+
+fn told(alloc: Global, draft: &mut Draft) -> Result<Told, TermError>
+    requires { cut 0 draft.old ≡ draft.old }
+{
+    make_five(alloc, draft)?;
+    let wrong = wrong(alloc, draft)?;
+    draft.cut(2);
+    Ok((wrong, left(alloc, draft)?))
+}
+
+/// What is told of the draft of all these updates.
+fn told_of_five(alloc: Global) -> Result<Told, TermError> {
+    let mut draft = Draft::new(alloc);
+    told(alloc, &mut draft)
+}
+
+// By the cut, the clause at 2, the erasure at 3 and the declaration at 4 are taken back.
 #[test]
-fn cuts(rt: HostRuntime) -> Result<(), Fail> {
-    assert!(rt; cut_at_two(rt.alloc())? == (true, false, false));
+fn draft_of_five(rt: HostRuntime) -> Result<(), Fail> {
+    let found = told_of_five(rt.alloc())?;
+    assert!(rt; found == ([None; 5], (true, false, false)), "{found:?}");
     Ok(())
 }

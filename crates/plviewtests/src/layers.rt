@@ -25,12 +25,24 @@ enum Move {
     End(bool),
 }
 
-/// These updates.
+/// Adds the update of a change.
+fn add(alloc: Global, updates: &mut Vec<Update>, change: Change) -> Result<(), TermError> {
+    let update = update(alloc, change)?;
+    Ok(updates.push(update)?)
+}
+
+/// Adds those of all these changes.
+fn add_all(alloc: Global, updates: &mut Vec<Update>, changes: &[Change]) -> Result<(), TermError> {
+    for change in changes {
+        add(alloc, updates, *change)?;
+    }
+    Ok(())
+}
+
+/// The updates of these changes.
 fn updates(alloc: Global, changes: &[Change]) -> Result<Vec<Update>, TermError> {
     let mut updates = Vec::new(alloc);
-    for change in changes {
-        updates.push(update(alloc, *change)?)?;
-    }
+    add_all(alloc, &mut updates, changes)?;
     Ok(updates)
 }
 
@@ -87,8 +99,17 @@ fn inside(alloc: Global, layer: &mut Layer, to: Move) -> Result<&'static str, Te
 /// count of a call's view.
 type Stands = (Option<u64>, Option<(u64, u64)>);
 
+/// That place.
+fn place_of(layer: &Layer) -> Option<u64> {
+    match layer.place() {
+        Some(place) => Some(place.get()),
+        None => None,
+    }
+}
+
+/// Where a layer stands.
 fn stands(layer: &Layer) -> Stands {
-    let place = layer.place().map(|place| place.get());
+    let place = place_of(layer);
     if !layer.is_open() {
         return (place, None);
     }
@@ -161,10 +182,15 @@ fn first_unlike(alloc: Global, layer: &mut Layer) -> Result<Option<usize>, TermE
     Ok(None)
 }
 
+/// The number of that move of a layer on which nothing was done.
+fn first_unlike_anew(alloc: Global) -> Result<Option<usize>, TermError> {
+    let mut layer = Layer::new(alloc);
+    first_unlike(alloc, &mut layer)
+}
+
 #[test]
 fn moves(rt: HostRuntime) -> Result<(), Fail> {
-    let mut layer = Layer::new(rt.alloc());
-    assert_eq!(rt; first_unlike(rt.alloc(), &mut layer)?, None);
+    assert_eq!(rt; first_unlike_anew(rt.alloc())?, None);
     Ok(())
 }
 
@@ -189,9 +215,14 @@ fn cancelled(layer: &mut Layer) -> Result<(Stands, u64), AllocError> {
     Ok((stands(layer), layer.own().len()))
 }
 
+/// The same of a layer on which nothing was done.
+fn cancelled_anew(alloc: Global) -> Result<(Stands, u64), AllocError> {
+    let mut layer = Layer::new(alloc);
+    cancelled(&mut layer)
+}
+
 #[test]
 fn beginning_taken_back(rt: HostRuntime) -> Result<(), Fail> {
-    let mut layer = Layer::new(rt.alloc());
-    assert!(rt; cancelled(&mut layer)? == ((Some(5), None), 0));
+    assert!(rt; cancelled_anew(rt.alloc())? == ((Some(5), None), 0));
     Ok(())
 }

@@ -1,7 +1,9 @@
 //! What a view tells without a walk (plviews).
 use crate::made::{indicator, name};
-use crate::owns::eight;
+use crate::owns::make_eight;
+use plevent::ClauseName;
 use plrecords::Cursor;
+use plterm::error::TermError;
 use pltx::{Own, OwnCursor};
 use plviews::{Reach, Step, View};
 use std::alloc::{AllocError, Global};
@@ -10,7 +12,7 @@ use std::string::String;
 use std::test::Fail;
 
 /// How far the clauses are looked through.
-#[derive(Clone, Copy, Debug)]
+#[derive(Clone, Copy)]
 enum Side {
     Front,
     Base,
@@ -26,37 +28,56 @@ fn reach(side: Side) -> Reach {
     }
 }
 
+/// Adds the name of a clause.
+fn tell_name(told: &mut String, name: ClauseName) -> Result<(), AllocError> {
+    write!(told, "{}.{}", name.place, name.number)
+}
+
 /// Adds what a look-up of the journal goes on behind.
 fn tell_cursor(told: &mut String, cursor: Cursor) -> Result<(), AllocError> {
     match cursor {
         Cursor::Start => told.push_str("the start"),
-        Cursor::After(name) => write!(told, "{}.{}", name.place, name.number),
+        Cursor::After(name) => tell_name(told, name),
     }
 }
 
-/// What a step says, and of a clause how far the clauses are looked through behind it.
-fn told(alloc: Global, step: Option<Step>) -> Result<String, AllocError> {
-    let mut told = String::new(alloc);
+/// Adds the name of the next clause, and behind what a look-up of the journal goes on then.
+fn tell_next(told: &mut String, name: ClauseName, cursor: Cursor) -> Result<(), AllocError> {
+    tell_name(told, name)?;
+    told.push_str(", and behind ")?;
+    tell_cursor(told, cursor)
+}
+
+/// Adds what a step says, and of a clause how far the clauses are looked through behind it.
+fn tell(told: &mut String, step: Option<Step>) -> Result<(), AllocError> {
     match step {
-        None => told.push_str("a walk")?,
-        Some(Step::Nothing) => told.push_str("nothing")?,
+        None => told.push_str("a walk"),
+        Some(Step::Nothing) => told.push_str("nothing"),
         Some(Step::Asks(cursor)) => {
             told.push_str("asks behind ")?;
-            tell_cursor(&mut told, cursor)?;
+            tell_cursor(told, cursor)
         }
-        Some(Step::Next(name, Reach::Base(cursor))) => {
-            write!(told, "{}.{}, and behind ", name.place, name.number)?;
-            tell_cursor(&mut told, cursor)?;
-        }
-        Some(Step::Next(_, _)) => told.push_str("an own clause")?,
+        Some(Step::Next(name, Reach::Base(cursor))) => tell_next(told, name, cursor),
+        Some(Step::Next(_, _)) => told.push_str("an own clause"),
     }
-    Ok(told)
+}
+
+/// Whether a step says what is wanted, as it is told from nothing.
+fn says_in(told: &mut String, step: Option<Step>, wanted: &str) -> Result<bool, AllocError> {
+    tell(told, step)?;
+    Ok(told.as_str() == wanted)
+}
+
+/// Whether a step says what is wanted.
+fn says(alloc: Global, step: Option<Step>, wanted: &str) -> Result<bool, AllocError> {
+    let mut told = String::new(alloc);
+    says_in(&mut told, step, wanted)
 }
 
 /// What comes next at once, where so many own updates are seen.
-fn at_once(alloc: Global, own: &Own, count: u64, side: Side) -> Result<String, AllocError> {
+fn at_once(own: &Own, count: u64, side: Side) -> Option<Step> {
     let view = View { place: 9, count };
-    told(alloc, view.at_once(own, reach(side)))
+    view.at_once(own, reach(side))
 }
 
 /// How many own updates are seen, through which clauses it is looked, and what comes next at once. Two updates stand before
@@ -73,20 +94,20 @@ const AT_ONCE: [(u64, Side, &str); 9] = [
     (8, Side::Back, "a walk"),
 ];
 
-#[test]
-fn steps_at_once(rt: HostRuntime) -> Result<(), Fail> {
-    let own = eight(rt.alloc())?;
-    for (count, side, wanted) in AT_ONCE {
-        let found = at_once(rt.alloc(), &own, count, side)?;
-        assert!(rt; found.as_str() == wanted, "{side:?} after {count}");
+/// The place of the first of these rows that is wrong.
+fn wrong_at_once(alloc: Global, own: &Own) -> Result<Option<usize>, AllocError> {
+    for (place, (count, side, wanted)) in AT_ONCE.iter().enumerate() {
+        if !says(alloc, at_once(own, *count, *side), wanted)? {
+            return Ok(Some(place));
+        }
     }
-    Ok(())
+    Ok(None)
 }
 
 /// What comes next where the journal gave the clause of a number at 3.
-fn past(alloc: Global, own: &Own, count: u64, number: u64) -> Result<String, AllocError> {
+fn past(own: &Own, count: u64, number: u64) -> Step {
     let view = View { place: 9, count };
-    told(alloc, Some(view.past(own, name(3, number))))
+    view.past(own, name(3, number))
 }
 
 /// How many own updates are seen, the number of a clause at 3, and what comes next. Update 7 erases 3.1.
@@ -97,14 +118,14 @@ const PAST: [(u64, u64, &str); 4] = [
     (8, 2, "3.2, and behind 3.2"),
 ];
 
-#[test]
-fn steps_past_a_clause(rt: HostRuntime) -> Result<(), Fail> {
-    let own = eight(rt.alloc())?;
-    for (count, number, wanted) in PAST {
-        let found = past(rt.alloc(), &own, count, number)?;
-        assert!(rt; found.as_str() == wanted, "{number} after {count}");
+/// The place of the first of these rows that is wrong.
+fn wrong_past(alloc: Global, own: &Own) -> Result<Option<usize>, AllocError> {
+    for (place, (count, number, wanted)) in PAST.iter().enumerate() {
+        if !says(alloc, Some(past(own, *count, *number)), wanted)? {
+            return Ok(Some(place));
+        }
     }
-    Ok(())
+    Ok(None)
 }
 
 /// The arity of p, how many own updates are seen, and whether one of them names the procedure.
@@ -122,14 +143,35 @@ fn names(alloc: Global, own: &Own, arity: u16, count: u64) -> Result<bool, Alloc
     Ok(view.names(own, &indicator(alloc, arity)?))
 }
 
-#[test]
-fn procedures(rt: HostRuntime) -> Result<(), Fail> {
-    let own = eight(rt.alloc())?;
-    for (arity, count, is_named) in NAMED {
-        assert!(rt;
-            names(rt.alloc(), &own, arity, count)? == is_named,
-            "p/{arity} after {count}"
-        );
+/// The place of the first of these rows that is wrong.
+fn wrong_name(alloc: Global, own: &Own) -> Result<Option<usize>, AllocError> {
+    for (place, (arity, count, is_named)) in NAMED.iter().enumerate() {
+        if names(alloc, own, *arity, *count)? != *is_named {
+            return Ok(Some(place));
+        }
     }
+    Ok(None)
+}
+
+/// The first wrong row of each table, once the own updates are made.
+fn wrong_in(alloc: Global, own: &mut Own) -> Result<[Option<usize>; 3], TermError> {
+    make_eight(alloc, own)?;
+    Ok([
+        wrong_at_once(alloc, own)?,
+        wrong_past(alloc, own)?,
+        wrong_name(alloc, own)?,
+    ])
+}
+
+/// The first wrong row of each table.
+fn wrong(alloc: Global) -> Result<[Option<usize>; 3], TermError> {
+    let mut own = Own::new(alloc);
+    wrong_in(alloc, &mut own)
+}
+
+#[test]
+fn views_of_own_updates(rt: HostRuntime) -> Result<(), Fail> {
+    let found = wrong(rt.alloc())?;
+    assert!(rt; found == [None; 3], "{found:?}");
     Ok(())
 }

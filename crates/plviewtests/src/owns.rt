@@ -1,6 +1,6 @@
 //! The own updates of open transactions (pltx).
-ghost use Rattle.std.specs.Prelude.{IfOk, OnOk};
-ghost use Rattle.pltx.specs.Own.{IsOpen};
+ghost use Rattle.std.specs.Prelude.{OnOk};
+ghost use Rattle.pltx.specs.Own.{IsAddition, IsOpen};
 
 use crate::made::{Change, indicator, key, name, update};
 use plevent::{JournalPlace, Update};
@@ -22,35 +22,54 @@ const CHANGES: [Change; 8] = [
     Change::Erase(3, 1),
 ];
 
-/// Makes one update.
+/// Erases a clause.
+fn erase(own: &mut Own, target: Target) -> Result<(), TermError>
+    requires { IsOpen own.old }
+    ensures { OnOk result (IsOpen own.new) }
+{
+    own.erase(target)?;
+    Ok(())
+}
+
+/// Makes an update that erases nothing.
+fn add(own: &mut Own, update: Update) -> Result<(), TermError>
+    requires addition { IsAddition update }
+    requires open { IsOpen own.old }
+    ensures { OnOk result (IsOpen own.new) }
+{
+    own.add(update)?;
+    Ok(())
+}
+
+/// Makes an update.
+fn make_update(own: &mut Own, update: Update) -> Result<(), TermError>
+    requires { IsOpen own.old }
+    ensures { OnOk result (IsOpen own.new) }
+{
+    match update {
+        Update::Erase(name) => erase(own, Target::Committed(name)),
+        Update::EraseOwn(number) => erase(own, Target::Own(number)),
+        addition => add(own, addition),
+    }
+}
+
+/// Makes the update of a change.
 fn make(alloc: Global, own: &mut Own, change: Change) -> Result<(), TermError>
     requires { IsOpen own.old }
     ensures { OnOk result (IsOpen own.new) }
 {
-    match update(alloc, change)? {
-        Update::Erase(name) => {
-            own.erase(Target::Committed(name))?;
-        }
-        Update::EraseOwn(number) => {
-            own.erase(Target::Own(number))?;
-        }
-        addition => {
-            own.add(addition)?;
-        }
-    }
-    Ok(())
+    make_update(own, update(alloc, change)?)
 }
 
-/// A transaction at 9 with all these updates.
-pub fn eight(alloc: Global) -> Result<Own, TermError>
-    ensures { IfOk result (λ own. IsOpen own) }
+/// Makes all these updates in a transaction at 9.
+pub fn make_eight(alloc: Global, own: &mut Own) -> Result<(), TermError>
+    ensures { OnOk result (IsOpen own.new) }
 {
-    let mut own = Own::new(alloc);
     own.begin(Isolation::Transaction, JournalPlace::new(9))?;
-    for change in CHANGES {
-        make(alloc, &mut own, change)?;
+    for change in &CHANGES {
+        make(alloc, own, *change)?;
     }
-    Ok(own)
+    Ok(())
 }
 
 /// How many updates are seen, a goal's first argument, and the number behind which is looked.
@@ -87,13 +106,14 @@ const FRONTS: [(Asked, Option<u64>); 12] = [
     ((4, None, Some(0)), None),
 ];
 
-#[test]
-fn clauses_in_front(rt: HostRuntime) -> Result<(), Fail> {
-    let own = eight(rt.alloc())?;
-    for (asked, number) in FRONTS {
-        assert!(rt; next_front(rt.alloc(), &own, asked)? == number, "{asked:?}");
+/// The place of the first of these rows that is wrong.
+fn wrong_front(alloc: Global, own: &Own) -> Result<Option<usize>, AllocError> {
+    for (place, (asked, number)) in FRONTS.iter().enumerate() {
+        if next_front(alloc, own, *asked)? != *number {
+            return Ok(Some(place));
+        }
     }
-    Ok(())
+    Ok(None)
 }
 
 /// The next clause of p/1 among those that were put behind all others.
@@ -118,13 +138,14 @@ const BACKS: [(Asked, Option<u64>); 11] = [
     ((8, None, Some(3)), None),
 ];
 
-#[test]
-fn clauses_behind(rt: HostRuntime) -> Result<(), Fail> {
-    let own = eight(rt.alloc())?;
-    for (asked, number) in BACKS {
-        assert!(rt; next_back(rt.alloc(), &own, asked)? == number, "{asked:?}");
+/// The place of the first of these rows that is wrong.
+fn wrong_back(alloc: Global, own: &Own) -> Result<Option<usize>, AllocError> {
+    for (place, (asked, number)) in BACKS.iter().enumerate() {
+        if next_back(alloc, own, *asked)? != *number {
+            return Ok(Some(place));
+        }
     }
-    Ok(())
+    Ok(None)
 }
 
 /// The arity of p, how many updates are seen, and whether one of them named the procedure.
@@ -137,14 +158,14 @@ const NAMED: [(u16, u64, bool); 6] = [
     (0, 8, false),
 ];
 
-#[test]
-fn procedures(rt: HostRuntime) -> Result<(), Fail> {
-    let own = eight(rt.alloc())?;
-    for (arity, m, is_named) in NAMED {
-        let pred = indicator(rt.alloc(), arity)?;
-        assert!(rt; own.exists_own(m, &pred) == is_named, "p/{arity} after {m}");
+/// The place of the first of these rows that is wrong.
+fn wrong_name(alloc: Global, own: &Own) -> Result<Option<usize>, AllocError> {
+    for (place, (arity, m, is_named)) in NAMED.iter().enumerate() {
+        if own.exists_own(*m, &indicator(alloc, *arity)?) != *is_named {
+            return Ok(Some(place));
+        }
     }
-    Ok(())
+    Ok(None)
 }
 
 /// How many updates are seen, and whether one of them erases the own clause 2, and the committed clause 3.1.
@@ -156,15 +177,15 @@ const ERASED: [(u64, bool, bool); 5] = [
     (8, true, true),
 ];
 
-#[test]
-fn erasures(rt: HostRuntime) -> Result<(), Fail> {
-    let own = eight(rt.alloc())?;
+/// The place of the first of these rows that is wrong.
+fn wrong_erasure(own: &Own) -> Option<usize> {
     let committed = Target::Committed(name(3, 1));
-    for (m, first, second) in ERASED {
-        assert!(rt; own.erased(m, Target::Own(2)) == first, "own after {m}");
-        assert!(rt; own.erased(m, committed) == second, "committed after {m}");
+    for (place, (m, first, second)) in ERASED.iter().enumerate() {
+        if own.erased(*m, Target::Own(2)) != *first || own.erased(*m, committed) != *second {
+            return Some(place);
+        }
     }
-    Ok(())
+    None
 }
 
 /// How many updates are seen, the number of one, and whether it made a clause that is alive.
@@ -177,26 +198,56 @@ const CLAUSES: [(u64, u64, bool); 6] = [
     (8, 6, true),
 ];
 
-#[test]
-fn clauses_by_number(rt: HostRuntime) -> Result<(), Fail> {
-    let own = eight(rt.alloc())?;
-    for (m, number, alive) in CLAUSES {
-        assert!(rt;
-            own.clause(m, number).is_some() == alive,
-            "{number} after {m}"
-        );
+/// The place of the first of these rows that is wrong.
+fn wrong_clause(own: &Own) -> Option<usize> {
+    for (place, (m, number, alive)) in CLAUSES.iter().enumerate() {
+        if own.clause(*m, *number).is_some() != *alive {
+            return Some(place);
+        }
     }
-    Ok(())
+    None
+}
+
+/// How many updates stand before the first that puts a clause in front, how many there are, and the place of the journal.
+type Counts = (u64, u64, u64);
+
+fn counts(own: &Own) -> Counts
+    requires { IsOpen own.now }
+{
+    (own.before_fronts(), own.len(), own.base().get())
+}
+
+/// Whether update 5 erases the own clause 2, and there is no update 8.
+fn ends_with_seven(own: &Own) -> bool {
+    matches!(own.update(5), Some(Update::EraseOwn(2))) && own.update(8).is_none()
+}
+
+/// The first wrong row of each table, and what is told of the updates themselves.
+type Told = ([Option<usize>; 5], Counts, bool);
+
+/// What is told of own updates once all these are made.
+fn told(alloc: Global, own: &mut Own) -> Result<Told, TermError> {
+    make_eight(alloc, own)?;
+    let wrong = [
+        wrong_front(alloc, own)?,
+        wrong_back(alloc, own)?,
+        wrong_name(alloc, own)?,
+        wrong_erasure(own),
+        wrong_clause(own),
+    ];
+    Ok((wrong, counts(own), ends_with_seven(own)))
+}
+
+/// What is told of all these updates.
+fn told_of_eight(alloc: Global) -> Result<Told, TermError> {
+    let mut own = Own::new(alloc);
+    told(alloc, &mut own)
 }
 
 // Two updates stand before the first that puts a clause in front.
 #[test]
-fn updates(rt: HostRuntime) -> Result<(), Fail> {
-    let own = eight(rt.alloc())?;
-    assert_eq!(rt;
-        (own.before_fronts(), own.len(), own.base().get()),
-        (2, 8, 9)
-    );
-    assert!(rt; matches!(own.update(5), Some(Update::EraseOwn(2))) && own.update(8).is_none());
+fn own_updates(rt: HostRuntime) -> Result<(), Fail> {
+    let found = told_of_eight(rt.alloc())?;
+    assert!(rt; found == ([None; 5], (2, 8, 9), true), "{found:?}");
     Ok(())
 }

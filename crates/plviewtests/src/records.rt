@@ -34,15 +34,20 @@ fn is_seen(alloc: Global, erased: Option<u64>, g: u64) -> Result<(bool, bool), T
     Ok((record.is_seen(g), record.clause_at(g).is_some()))
 }
 
+/// The place of the first of these rows that is wrong.
+fn wrong_time(alloc: Global) -> Result<Option<usize>, TermError> {
+    for (place, (erased, g, seen)) in SEEN.iter().enumerate() {
+        if is_seen(alloc, *erased, *g)? != (*seen, *seen) {
+            return Ok(Some(place));
+        }
+    }
+    Ok(None)
+}
+
 // A clause is seen by who sees its batch and not that of its erasure.
 #[test]
 fn records_in_time(rt: HostRuntime) -> Result<(), Fail> {
-    for (erased, g, seen) in SEEN {
-        assert!(rt;
-            is_seen(rt.alloc(), erased, g)? == (seen, seen),
-            "{erased:?} at {g}"
-        );
-    }
+    assert_eq!(rt; wrong_time(rt.alloc())?, None);
     Ok(())
 }
 
@@ -60,14 +65,24 @@ fn is_of(alloc: Global, record: &Record, name: &str, arity: u16) -> Result<bool,
     Ok(record.is_of(&Indicator { name, arity }))
 }
 
+/// The place of the first of these rows that is wrong of a record.
+fn wrong_in(alloc: Global, record: &Record) -> Result<Option<usize>, TermError> {
+    for (place, (name, arity, is)) in PROCEDURES.iter().enumerate() {
+        if is_of(alloc, record, name, *arity)? != *is {
+            return Ok(Some(place));
+        }
+    }
+    Ok(None)
+}
+
+/// The place of the first of these rows that is wrong of the record of p(1).
+fn wrong_procedure(alloc: Global) -> Result<Option<usize>, TermError> {
+    let record = record(alloc, None)?;
+    wrong_in(alloc, &record)
+}
+
 #[test]
 fn records_of_procedures(rt: HostRuntime) -> Result<(), Fail> {
-    let record = record(rt.alloc(), None)?;
-    for (name, arity, is) in PROCEDURES {
-        assert!(rt;
-            is_of(rt.alloc(), &record, name, arity)? == is,
-            "{name}/{arity}"
-        );
-    }
+    assert_eq!(rt; wrong_procedure(rt.alloc())?, None);
     Ok(())
 }

@@ -4,6 +4,7 @@ ghost use Rattle.std.specs.Prelude.{◌≡◌, ◌<◌, ◌^◌, IfOk};
 use crate::made::fact;
 use plevent::standing::Standing;
 use plevent::{Batch, ThreadEnd, ThreadId, Update, WorkerId};
+use plterm::error::TermError;
 use std::alloc::{AllocError, Global};
 use std::test::Fail;
 
@@ -52,20 +53,36 @@ const ENDED: [(Act, bool, bool); 4] = [
     (Act::End, false, true),
 ];
 
+/// The place of the first of these rows that is wrong.
+fn wrong_end(alloc: Global) -> Result<Option<usize>, AllocError> {
+    for (place, (act, halted, settled)) in ENDED.iter().enumerate() {
+        if ended(alloc, *act)? != (*halted, *settled) {
+            return Ok(Some(place));
+        }
+    }
+    Ok(None)
+}
+
 // Main ends the run by halt alone, and is settled by its own end alone.
 #[test]
 fn ends_of_runs(rt: HostRuntime) -> Result<(), Fail> {
-    for (act, halted, settled) in ENDED {
-        let found = ended(rt.alloc(), act)?;
-        assert!(rt; found == (halted, settled));
-    }
+    assert_eq!(rt; wrong_end(rt.alloc())?, None);
     Ok(())
 }
 
-// A batch of one update has that one.
+/// Whether a batch has one update, which puts a clause before all others.
+fn has_one(batch: &Batch) -> bool {
+    matches!(batch.as_slice(), [Update::First(_)])
+}
+
+/// Whether a batch of one such update has that one.
+fn has_its_own(alloc: Global) -> Result<bool, TermError> {
+    let batch = Batch::of(Update::First(fact(alloc, None)?));
+    Ok(has_one(&batch))
+}
+
 #[test]
 fn batch_of_one(rt: HostRuntime) -> Result<(), Fail> {
-    let batch = Batch::of(Update::First(fact(rt.alloc(), None)?));
-    assert!(rt; matches!(batch.as_slice(), [Update::First(_)]));
+    assert!(rt; has_its_own(rt.alloc())?);
     Ok(())
 }

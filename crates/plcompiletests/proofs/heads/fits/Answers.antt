@@ -1,4 +1,4 @@
-use Rattle.plcompiletests.proofs.Rows.{covers-one}
+use Rattle.plcompiletests.proofs.Alone.{covers-one}
 use Rattle.plcompiletests.proofs.heads.fits.Goals as goal
 
 pub fit-requires-clause-covers : goal.fit-requires-clause-covers

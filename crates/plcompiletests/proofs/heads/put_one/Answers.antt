@@ -1,5 +1,5 @@
 use Rattle.plenv.proofs.Rows.{for-values}
-use Rattle.plcompiletests.proofs.Rows.{covers-one}
+use Rattle.plcompiletests.proofs.Alone.{covers-one}
 use Rattle.plcompiletests.proofs.heads.put_one.Goals as goal
 
 pub put_row-requires-clause-covers : goal.put_row-requires-clause-covers

@@ -1,5 +1,5 @@
 use Rattle.pltx.specs.Own.{IsOpen}
-use Rattle.plviewtests.proofs.owns.eight.Given as goal
+use Rattle.plviewtests.proofs.owns.make_eight.Given as goal
 
 abbrev pub invariant-loop-change : goal.invariant-loop-change
 invariant-loop-change l = IsOpen l.own

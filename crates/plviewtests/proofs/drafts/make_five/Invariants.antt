@@ -1,6 +1,6 @@
 use Rattle.std.proofs.Common.{◌≡◌}
 use Rattle.plstore.specs.Cut.{cut}
-use Rattle.plviewtests.proofs.drafts.five.Given as goal
+use Rattle.plviewtests.proofs.drafts.make_five.Given as goal
 
 abbrev pub invariant-loop-change : goal.invariant-loop-change
 invariant-loop-change l = record {
