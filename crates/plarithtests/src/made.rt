@@ -40,14 +40,25 @@ pub(crate) fn two(alloc: Global, name: &str, a: Term, b: Term) -> Result<Term, A
     }
 }
 
-/// What a term comes to that is put on a heap; its variables are below a count.
+/// What a term comes to that is put into an environment; its variables are below a count.
+fn put_and_eval(
+    env: &mut Environment,
+    alloc: Global,
+    term: &Term,
+    count: u32,
+) -> Result<Evaluated, AllocError>
+    requires { AllBelow count term.now }
+{
+    let v = env.put_term(alloc, term, count)?;
+    eval(alloc, env.heap(), v)
+}
+
+/// The same of an environment with nothing in it.
 fn on_heap(alloc: Global, term: &Term, count: u32) -> Result<Evaluated, AllocError>
     requires { AllBelow count term.now }
 {
-    let names = Names::new(alloc);
-    let mut env = Environment::new(alloc, names);
-    let v = env.put_term(alloc, term, count)?;
-    eval(alloc, env.heap(), v)
+    let mut env = Environment::new(alloc, Names::new(alloc));
+    put_and_eval(&mut env, alloc, term, count)
 }
 
 /// What a term comes to that is laid down as that of a clause; its variables are below a count.

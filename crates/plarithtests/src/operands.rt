@@ -18,7 +18,7 @@ use std::string::String;
 use std::test::Fail;
 
 /// A term, by its functor and its integers.
-#[derive(Clone, Copy, Debug)]
+#[derive(Clone, Copy)]
 enum Shaped {
     Var,
     Int(i64),
@@ -127,17 +127,36 @@ const SEEN: [(Shaped, &str, &str); 9] = [
     (Shaped::Nested("*", "-", 3, 4), "two, 14", "-12"),
 ];
 
+/// Whether a term of this shape is seen to be, and comes to, what is wanted.
+fn is_seen(
+    alloc: Global,
+    env: &mut Environment,
+    shape: Shaped,
+    wanted: (&str, &str),
+) -> Result<bool, AllocError> {
+    let (opened, value) = put_and_seen(alloc, env, shape)?;
+    Ok(opened.as_str() == wanted.0 && value.as_str() == wanted.1)
+}
+
+/// The place of the first row of which that is not so.
+fn wrong_seen(alloc: Global, env: &mut Environment) -> Result<Option<usize>, AllocError> {
+    for (place, (shape, opened, value)) in SEEN.iter().enumerate() {
+        if !is_seen(alloc, env, *shape, (*opened, *value))? {
+            return Ok(Some(place));
+        }
+    }
+    Ok(None)
+}
+
+/// The same in an environment with nothing in it.
+fn wrong_seen_anew(alloc: Global) -> Result<Option<usize>, AllocError> {
+    let mut env = Environment::new(alloc, Names::new(alloc));
+    wrong_seen(alloc, &mut env)
+}
+
 #[test]
 fn operands(rt: HostRuntime) -> Result<(), Fail> {
-    let alloc = rt.alloc();
-    let mut env = Environment::new(alloc, Names::new(alloc));
-    for (shape, opened, value) in SEEN {
-        let (first, second) = put_and_seen(alloc, &mut env, shape)?;
-        assert!(rt;
-            first.as_str() == opened && second.as_str() == value,
-            "{shape:?}"
-        );
-    }
+    assert_eq!(rt; wrong_seen_anew(rt.alloc())?, None);
     Ok(())
 }
 
