@@ -1,5 +1,4 @@
 //! Keys of terms, procedures of clauses by their keys, and code by its places (plcode).
-ghost use Rattle.std.specs.Prelude.{◌≡◌, ◌≤◌, length, IfOk};
 ghost use Rattle.plcode.specs.Bodies.{IsCode};
 ghost use Rattle.plcode.specs.Steps.{text as text_of};
 

@@ -1,5 +1,4 @@
 //! Bodies, clauses and terms as they are compiled: their steps, keys and nodes, and what is called by a name.
-ghost use Rattle.std.specs.Prelude.{◌≡◌, [], IfOk};
 ghost use Rattle.platoms.specs.Names.{IsTable};
 ghost use Rattle.plcode.specs.Bodies.{IsCode};
 ghost use Rattle.plcode.specs.Steps.{text as text_of};
