@@ -10,7 +10,7 @@ use pllinks::link::{Continuation, Link, first_link, push_link};
 use pllinks::list::ListId;
 use plstack::stack::Stack;
 use plstackmade::first::list;
-use plstackmade::made::begun;
+use plstackmade::rows::{Doing, told as told_of};
 use plstackmade::state::number;
 use std::alloc::Global;
 use std::string::String;
@@ -126,16 +126,21 @@ fn numbers(stack: &mut Stack) -> Result<(usize, usize, usize), Fail> {
     Ok((first, second, number_behind(stack)?))
 }
 
-/// The same of the body of a program's clause.
-fn numbers_of_body(alloc: Global, text: &str) -> Result<(usize, usize, usize), Fail> {
-    let mut stack = begun(alloc, text, "p")?;
-    numbers(&mut stack)
+/// The numbers of lists.
+#[derive(Clone, Copy)]
+struct Numbers;
+
+impl Doing for Numbers {
+    fn tell(&self, stack: &mut Stack, alloc: Global) -> Result<String, Fail> {
+        let (first, second, behind) = numbers(stack)?;
+        Ok(format!(in alloc; "{first} {second} {behind}")?)
+    }
 }
 
 // The list of the goal p, which is called, is the first one.
 #[test]
 fn numbers_of_lists(rt: HostRuntime) -> Result<(), Fail> {
-    let found = numbers_of_body(rt.alloc(), "p :- q, r.")?;
-    assert!(rt; found == (2, 3, 4));
+    let found = told_of(rt.alloc(), "p :- q, r.", "p", &Numbers)?;
+    assert_eq!(rt; found.as_str(), "2 3 4");
     Ok(())
 }

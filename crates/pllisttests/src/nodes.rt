@@ -17,7 +17,7 @@ use plstack::first::First;
 use plstack::stack::Stack;
 use plstackmade::back::truth;
 use plstackmade::first::pass;
-use plstackmade::made::begun;
+use plstackmade::rows::{Doing, told};
 use plstackmade::state::first_text;
 use plwrite::style::Style;
 use plwrite::write::write_term;
@@ -109,10 +109,14 @@ fn evaluated_in(stack: &mut Stack, alloc: Global) -> Result<String, Fail> {
     Ok(format!(in alloc; "{text} {is} {goal}")?)
 }
 
-/// The same of the body of a program's clause for a goal.
-fn evaluated(alloc: Global, text: &str, goal: &str) -> Result<String, Fail> {
-    let mut stack = begun(alloc, text, goal)?;
-    evaluated_in(&mut stack, alloc)
+/// What the sides of a goal come to.
+#[derive(Clone, Copy)]
+struct Evaluates;
+
+impl Doing for Evaluates {
+    fn tell(&self, stack: &mut Stack, alloc: Global) -> Result<String, Fail> {
+        evaluated_in(stack, alloc)
+    }
 }
 
 /// Programs and goals, what the right side of the goal of the body comes to, whether the left one is that, and the body's goal then.
@@ -141,7 +145,7 @@ const EVALUATED: [(&str, &str, &str); 6] = [
 fn rows_of_expressions(rt: HostRuntime) -> Result<(), Fail> {
     let alloc = rt.alloc();
     for (text, goal, wanted) in EVALUATED {
-        let found = evaluated(alloc, text, goal)?;
+        let found = told(alloc, text, goal, &Evaluates)?;
         assert_eq!(rt; found.as_str(), wanted);
     }
     Ok(())

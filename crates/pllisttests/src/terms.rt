@@ -10,8 +10,8 @@ use pllinks::level::Level;
 use plmade::made::{shown, told};
 use plops::table::OpTable;
 use plstack::stack::Stack;
-use plstackmade::made::begun;
 use plstackmade::opening::put;
+use plstackmade::rows::{Doing, told as told_of};
 use plwrite::style::Style;
 use plwrite::write::write_term;
 use std::alloc::Global;
@@ -121,10 +121,22 @@ fn made_in(stack: &mut Stack, alloc: Global, how: Made, text: &str) -> Result<St
     }
 }
 
+/// What is made of the arguments of the goal of a text.
+#[derive(Clone, Copy)]
+struct Makes {
+    how: Made,
+    text: &'static str,
+}
+
+impl Doing for Makes {
+    fn tell(&self, stack: &mut Stack, alloc: Global) -> Result<String, Fail> {
+        made_in(stack, alloc, self.how, self.text)
+    }
+}
+
 /// The same in a stack of a program.
-fn made_of(alloc: Global, how: Made, text: &str) -> Result<String, Fail> {
-    let mut stack = begun(alloc, "p.", "p")?;
-    made_in(&mut stack, alloc, how, text)
+fn made_of(alloc: Global, how: Made, text: &'static str) -> Result<String, Fail> {
+    told_of(alloc, "p.", "p", &Makes { how, text })
 }
 
 /// What is made of the arguments of goals.
@@ -172,15 +184,19 @@ fn truths_in(stack: &mut Stack, alloc: Global) -> Result<String, Fail> {
     Ok(format!(in alloc; "{shared} and {put}")?)
 }
 
-/// The same in a stack of a program.
-fn truths(alloc: Global) -> Result<String, Fail> {
-    let mut stack = begun(alloc, "p.", "p")?;
-    truths_in(&mut stack, alloc)
+/// Those atoms.
+#[derive(Clone, Copy)]
+struct Truths;
+
+impl Doing for Truths {
+    fn tell(&self, stack: &mut Stack, alloc: Global) -> Result<String, Fail> {
+        truths_in(stack, alloc)
+    }
 }
 
 #[test]
 fn body_of_facts(rt: HostRuntime) -> Result<(), Fail> {
-    let found = truths(rt.alloc())?;
+    let found = told_of(rt.alloc(), "p.", "p", &Truths)?;
     assert_eq!(rt; found.as_str(), "true and true");
     Ok(())
 }

@@ -4,7 +4,9 @@ use Rattle.plterm.specs.Tree.{Tree}
 use Rattle.plcells.specs.declared.cell.Cell.{Cell}
 use Rattle.plcells.specs.Store.{value, AreValues, IsValue, Store}
 use Rattle.plcode.specs.declared.callee.Number.{Number}
+use Rattle.plcode.specs.Callees.{IsProgramCode}
 use Rattle.plprogram.specs.Program.{Program}
+use Rattle.plviews.specs.Layers.{bottom}
 use Rattle.plgoals.specs.Callables.{called, IsCallable}
 use Rattle.pllinks.specs.declared.link.Continuation.{Continuation}
 use Rattle.plstack.specs.Levels.{Precedes}
@@ -23,6 +25,13 @@ pub record IsBlank (s : State) : Type 0 where
   pub frames : s.frames ≡ []
   pub latest : s.basis.latest ≡ record { place = 0; count = 0 }
   pub starts : s.basis.starts ≡ []
+
+-- a machine of a program with nothing on its stack, and nothing is open
+pub record IsIdle (P : Program) (s : Machine) : Type 0 where
+  pub blank : IsBlank s.stack
+  pub code : IsProgramCode P s.stack.basis.code
+  pub visits : s.mode ≡ modes.Visit
+  pub layer : s.layer ≡ bottom
 
 -- a machine of a program that visits a list, and nothing is open
 pub record IsReady (P : Program) (s : Machine) : Type 0 where

@@ -6,7 +6,7 @@ ghost use Rattle.plprogram.specs.Program.{Program as Given};
 ghost use Rattle.plsearch.specs.Types.{Goal};
 ghost use Rattle.plterm.specs.Variables.{copied};
 ghost use Rattle.plstack.specs.State.{goals_of, Extends, IsList};
-ghost use Rattle.plmachinemade.specs.Ready.{IsBlank, IsCall, IsFirstGoal, IsReady};
+ghost use Rattle.plmachinemade.specs.Ready.{IsBlank, IsCall, IsFirstGoal, IsIdle, IsReady};
 
 use plcells::cell::Cell;
 use plcells::heap::Heap;
@@ -23,7 +23,6 @@ use plmade::made::goal_of;
 use plprogram::program::Program;
 use plstack::first::First;
 use plstack::stack::Stack;
-use plterm::name::Name;
 use plterm::term::Term;
 use plviews::Layer;
 use std::alloc::{AllocError, Global};
@@ -83,24 +82,12 @@ fn visit(stack: &mut Stack, alloc: Global, goal: &Term, last: &Term) -> Result<(
     Ok(())
 }
 
-/// A stack of a program's code in which a goal is visited, and behind it the goal `z`.
-fn visited(alloc: Global, program: &Program, goal: &Term) -> Result<Stack, Fail>
-    ensures code { IfOk result (λ s. IsProgramCode program.now s.basis.code) }
-    ensures latest { IfOk result (λ s. s.basis.latest ≡ record { place = 0; count = 0 }) }
-    ensures starts { IfOk result (λ s. s.basis.starts ≡ []) }
-{
-    let last = Term::atom(alloc, Name::new(alloc, "z")?)?;
-    let mut stack = empty(alloc, program)?;
-    visit(&mut stack, alloc, goal, &last)?;
-    Ok(stack)
-}
-
-/// A machine of a program at a goal, behind which there is the goal `z`.
-fn machine_at(alloc: Global, program: &Program, goal: &Term) -> Result<Machine, Fail>
-    ensures { IfOk result (λ s. IsReady program.now s) }
+/// A machine of a program with nothing on its stack.
+pub(crate) fn blank(alloc: Global, program: &Program) -> Result<Machine, AllocError>
+    ensures { IfOk result (λ s. IsIdle program.now s) }
 {
     let settings = program.settings().copied(alloc)?;
-    let stack = visited(alloc, program, goal)?;
+    let stack = empty(alloc, program)?;
     Ok(Machine {
         alloc,
         stack,
@@ -113,12 +100,23 @@ fn machine_at(alloc: Global, program: &Program, goal: &Term) -> Result<Machine, 
     })
 }
 
-/// A machine of a program at the goal of a text, behind which there is the goal `z`.
-pub fn machine(alloc: Global, program: &Program, text: &str) -> Result<Machine, Fail>
-    ensures { IfOk result (λ s. IsReady program.now s) }
+/// Has such a machine visit a goal, and behind it the goal `z`.
+fn start_at(machine: &mut Machine, goal: &Term) -> Result<(), Fail>
+    requires { (P : Given) × IsIdle P machine.old }
+    ensures { (P : Given) → IsIdle P machine.old → OnOk result (IsReady P machine.new) }
 {
-    let goal = goal_of(alloc, text)?;
-    machine_at(alloc, program, &goal)
+    let last = goal_of(machine.alloc, "z")?;
+    visit(&mut machine.stack, machine.alloc, goal, &last)?;
+    Ok(())
+}
+
+/// Has such a machine visit the goal of a text.
+pub(crate) fn start(machine: &mut Machine, text: &str) -> Result<(), Fail>
+    requires { (P : Given) × IsIdle P machine.old }
+    ensures { (P : Given) → IsIdle P machine.old → OnOk result (IsReady P machine.new) }
+{
+    let goal = goal_of(machine.alloc, text)?;
+    start_at(machine, &goal)
 }
 
 /// The goal that a machine visits first: its level, its value, and the list behind it.

@@ -1,7 +1,7 @@
 //! Rows of what is done with machines, and what it makes of them.
-ghost use Rattle.plmachinemade.specs.Ready.{IsReady};
+ghost use Rattle.plmachinemade.specs.Ready.{IsIdle, IsReady};
 
-use crate::made::{machine, program};
+use crate::made::{blank, program, start};
 use plmachine::machine::Machine;
 use plprogram::program::Program;
 use std::alloc::Global;
@@ -19,10 +19,23 @@ pub trait Doing {
 /// What is done, the text of a goal, and what is told of a machine at the goal then.
 pub type Row<D> = (D, &'static str, &'static str);
 
-/// What is told of a machine at the goal of a text.
+/// What is told of a machine with nothing on its stack that visits the goal of a text.
+fn told_in<D: Doing>(
+    program: &Program,
+    machine: &mut Machine,
+    doing: &D,
+    text: &str,
+) -> Result<String, Fail>
+    requires { IsIdle program.now machine.old }
+{
+    start(machine, text)?;
+    doing.tell(program, machine)
+}
+
+/// What is told of a machine of a program at the goal of a text.
 fn told<D: Doing>(alloc: Global, program: &Program, doing: &D, text: &str) -> Result<String, Fail> {
-    let mut machine = machine(alloc, program, text)?;
-    doing.tell(program, &mut machine)
+    let mut machine = blank(alloc, program)?;
+    told_in(program, &mut machine, doing, text)
 }
 
 /// Adds what is found for a text, where it is not what is wanted.

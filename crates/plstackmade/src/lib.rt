@@ -6,4 +6,5 @@ pub mod first;
 pub mod going;
 pub mod made;
 pub mod opening;
+pub mod rows;
 pub mod state;

@@ -92,7 +92,7 @@ pub fn call_first(stack: &mut Stack, alloc: Global) -> Result<bool, Fail>
 }
 
 /// Calls the goal of a text, the first of a stack with nothing on it.
-fn begin(stack: &mut Stack, alloc: Global, text: &str) -> Result<(), Fail>
+pub(crate) fn begin(stack: &mut Stack, alloc: Global, text: &str) -> Result<(), Fail>
     requires statics { (db : Database) × AreStatics stack.old.basis.code db }
     requires frames { stack.old.frames ≡ [] }
     ensures basis { OnOk result (stack.new.basis ≡ stack.old.basis) }
@@ -106,22 +106,11 @@ fn begin(stack: &mut Stack, alloc: Global, text: &str) -> Result<(), Fail>
 }
 
 /// A stack of a text's program with nothing on it.
-fn blank(alloc: Global, text: &str) -> Result<Stack, Fail>
+pub(crate) fn blank(alloc: Global, text: &str) -> Result<Stack, Fail>
     ensures frames { IfOk result (λ s. s.frames ≡ []) }
     ensures latest { IfOk result (λ s. s.basis.latest ≡ record { place = 0; count = 0 }) }
     ensures statics { IfOk result (λ s. (db : Database) × AreStatics s.basis.code db) }
 {
     let program = program(alloc, text)?;
     Ok(empty(alloc, &program)?)
-}
-
-/// A stack of a program's text in which the body of the first clause that fits the goal of a text is visited. The goal stands in the one
-/// case that was open, and its call in a second one.
-pub fn begun(alloc: Global, text: &str, goal: &str) -> Result<Stack, Fail>
-    ensures statics { IfOk result (λ s. (db : Database) × AreStatics s.basis.code db) }
-    ensures latest { IfOk result (λ s. s.basis.latest ≡ record { place = 0; count = 0 }) }
-{
-    let mut stack = blank(alloc, text)?;
-    begin(&mut stack, alloc, goal)?;
-    Ok(stack)
 }

@@ -8,8 +8,9 @@ use plstack::stack::Stack;
 use plstackmade::back::{close_plain, take};
 use plstackmade::first::pass;
 use plstackmade::going::give_back;
-use plstackmade::made::{begun, call_first};
+use plstackmade::made::call_first;
 use plstackmade::opening::branch;
+use plstackmade::rows::{Doing, told};
 use plstackmade::state::{number, state};
 use std::alloc::Global;
 use std::string::String;
@@ -139,10 +140,19 @@ fn others(stack: &mut Stack, alloc: Global, moves: &[Told]) -> Result<String, Fa
     Ok(others)
 }
 
-/// The same of a stack of a program's text in which the body of the goal p is visited.
-fn compared(alloc: Global, text: &str, moves: &[Told]) -> Result<String, Fail> {
-    let mut stack = begun(alloc, text, "p")?;
-    others(&mut stack, alloc, moves)
+/// What is done with a stack, one after the other.
+#[derive(Clone, Copy)]
+struct Moves(&'static [Told]);
+
+impl Doing for Moves {
+    fn tell(&self, stack: &mut Stack, alloc: Global) -> Result<String, Fail> {
+        others(stack, alloc, self.0)
+    }
+}
+
+/// What is told otherwise than said of a stack of a program's text in which the body of the goal p is visited.
+fn compared(alloc: Global, text: &str, moves: &'static [Told]) -> Result<String, Fail> {
+    told(alloc, text, "p", &Moves(moves))
 }
 
 /// Programs, and what calls of their goals tell. The goal p stands in the case of level 0, and its clause in that of level 1.

@@ -2,8 +2,8 @@
 use plstack::stack::Stack;
 use plstackmade::back::{Back, come_back};
 use plstackmade::going::{Going, go_on};
-use plstackmade::made::begun;
 use plstackmade::opening::{Opening, open};
+use plstackmade::rows::{Doing, told};
 use plstackmade::state::state;
 use std::alloc::Global;
 use std::fmt::Write;
@@ -65,11 +65,25 @@ pub(crate) fn others(stack: &mut Stack, alloc: Global, moves: &[Told]) -> Result
     Ok(others)
 }
 
-/// The same of a stack in which the body of `p(X) :- X = f(Y), r(X, Y)` is visited. The goal p(Z) stands in the case of level 0, and its
-/// clause, by which the body is entered, in that of level 1.
-fn compared(alloc: Global, moves: &[Told]) -> Result<String, Fail> {
-    let mut stack = begun(alloc, "p(X) :- X = f(Y), r(X, Y).", "p(Z)")?;
-    others(&mut stack, alloc, moves)
+/// What is done with a stack, one after the other.
+#[derive(Clone, Copy)]
+struct Moves(&'static [Told]);
+
+impl Doing for Moves {
+    fn tell(&self, stack: &mut Stack, alloc: Global) -> Result<String, Fail> {
+        others(stack, alloc, self.0)
+    }
+}
+
+/// What is told otherwise than said of a stack in which the body of a program's clause for the goal p(Z) is visited. The goal stands in the
+/// case of level 0, and its clause, by which the body is entered, in that of level 1.
+fn others_of(alloc: Global, text: &str, moves: &'static [Told]) -> Result<String, Fail> {
+    told(alloc, text, "p(Z)", &Moves(moves))
+}
+
+/// The same of the body of `p(X) :- X = f(Y), r(X, Y)`.
+fn compared(alloc: Global, moves: &'static [Told]) -> Result<String, Fail> {
+    others_of(alloc, "p(X) :- X = f(Y), r(X, Y).", moves)
 }
 
 const PASS: Move = Move::Go(Going::Pass);
@@ -238,7 +252,7 @@ const HANDLERS: [&[Told]; 6] = [
 ];
 
 /// What is told otherwise than said in one of some rows.
-fn any_other(alloc: Global, rows: &[&[Told]]) -> Result<String, Fail> {
+fn any_other(alloc: Global, rows: &[&'static [Told]]) -> Result<String, Fail> {
     let mut all = String::new(alloc);
     for moves in rows {
         let others = compared(alloc, moves)?;
@@ -362,12 +376,6 @@ const ANSWERS: [(&str, &[Told]); 5] = [
         ],
     ),
 ];
-
-/// What is told otherwise than said of the body of a program's clause.
-fn others_of(alloc: Global, text: &str, moves: &[Told]) -> Result<String, Fail> {
-    let mut stack = begun(alloc, text, "p(Z)")?;
-    others(&mut stack, alloc, moves)
-}
 
 #[test]
 fn rows_of_unified_terms(rt: HostRuntime) -> Result<(), Fail> {

@@ -10,8 +10,8 @@ use plstack::stack::Stack;
 use plstackmade::back::Back;
 use plstackmade::first::list;
 use plstackmade::going::Going;
-use plstackmade::made::begun;
 use plstackmade::opening::Opening;
+use plstackmade::rows::{Doing, told};
 use plviews::View;
 use std::alloc::Global;
 use std::string::String;
@@ -60,10 +60,22 @@ fn others_within(
     others(stack, alloc, moves)
 }
 
-/// The same of a stack in which the body of `p :- q, r` is visited.
-fn compared(alloc: Global, nested: bool, moves: &[Told]) -> Result<String, Fail> {
-    let mut stack = begun(alloc, "p :- q, r.", "p")?;
-    others_within(&mut stack, alloc, nested, moves)
+/// What is done where a transaction is open, or one in another one.
+#[derive(Clone, Copy)]
+struct Within {
+    nested: bool,
+    moves: &'static [Told],
+}
+
+impl Doing for Within {
+    fn tell(&self, stack: &mut Stack, alloc: Global) -> Result<String, Fail> {
+        others_within(stack, alloc, self.nested, self.moves)
+    }
+}
+
+/// What is told otherwise than said of a stack in which the body of `p :- q, r` is visited.
+fn compared(alloc: Global, nested: bool, moves: &'static [Told]) -> Result<String, Fail> {
+    told(alloc, "p :- q, r.", "p", &Within { nested, moves })
 }
 
 const BRANCH: Move = Move::Open(Opening::Branch);

@@ -15,7 +15,7 @@ use plstack::stack::Stack;
 use plstack::walk::{Candidate, Entered};
 use plstackmade::back::truth;
 use plstackmade::first::{behind, pass, pick};
-use plstackmade::made::begun;
+use plstackmade::rows::{Doing, told};
 use plstackmade::state::{number, state};
 use plviews::{Reach, View};
 use std::alloc::Global;
@@ -262,11 +262,31 @@ fn clauses_of(program: &Program) -> Result<&[Clause], Fail> {
     Ok(clauses)
 }
 
-/// What is told otherwise than said of a stack in which the body of the caller's clause is visited, for a goal.
-fn compared(alloc: Global, program: &Program, goal: &str, moves: &[Told]) -> Result<String, Fail> {
+/// What is told otherwise than said, with the clauses of the first procedure of a program.
+fn others_by(
+    stack: &mut Stack,
+    alloc: Global,
+    program: &Program,
+    moves: &[Told],
+) -> Result<String, Fail> {
     let clauses = clauses_of(program)?;
-    let mut stack = begun(alloc, CALLER, goal)?;
-    others(&mut stack, alloc, clauses, moves)
+    others(stack, alloc, clauses, moves)
+}
+
+/// What is done with a stack and the clauses of q/2, one after the other.
+#[derive(Clone, Copy)]
+struct Moves(&'static [Told]);
+
+impl Doing for Moves {
+    fn tell(&self, stack: &mut Stack, alloc: Global) -> Result<String, Fail> {
+        let program = program(alloc, CLAUSES)?;
+        others_by(stack, alloc, &program, self.0)
+    }
+}
+
+/// What is told otherwise than said of a stack in which the body of the caller's clause is visited, for a goal.
+fn compared(alloc: Global, goal: &str, moves: &'static [Told]) -> Result<String, Fail> {
+    told(alloc, CALLER, goal, &Moves(moves))
 }
 
 /// Goals, and what walks over the clauses of q/2 tell: what comes of the clause that is tried, the state then, and where the walk stands.
@@ -343,9 +363,8 @@ const WALKS: [(&str, &[Told]); 6] = [
 #[test]
 fn rows_of_walks(rt: HostRuntime) -> Result<(), Fail> {
     let alloc = rt.alloc();
-    let program = program(alloc, CLAUSES)?;
     for (goal, moves) in WALKS {
-        let others = compared(alloc, &program, goal, moves)?;
+        let others = compared(alloc, goal, moves)?;
         assert_eq!(rt; others.as_str(), "");
     }
     Ok(())
@@ -364,15 +383,19 @@ fn seen(stack: &mut Stack, alloc: Global) -> Result<String, Fail>
     stand(stack, alloc)
 }
 
-/// The same of the caller.
-fn seen_anew(alloc: Global) -> Result<String, Fail> {
-    let mut stack = begun(alloc, CALLER, "p(Z)")?;
-    seen(&mut stack, alloc)
+/// A view that may be seen from then on.
+#[derive(Clone, Copy)]
+struct Sees;
+
+impl Doing for Sees {
+    fn tell(&self, stack: &mut Stack, alloc: Global) -> Result<String, Fail> {
+        seen(stack, alloc)
+    }
 }
 
 #[test]
 fn view_that_is_seen(rt: HostRuntime) -> Result<(), Fail> {
-    let told = seen_anew(rt.alloc())?;
+    let told = told(rt.alloc(), CALLER, "p(Z)", &Sees)?;
     assert_eq!(rt; told.as_str(), "3 walk 1: c(q(_1,_2),_3), seek 3.0");
     Ok(())
 }
