@@ -1,5 +1,4 @@
-//! Tests of clauses, of programs and their settings, and of error terms, from the public calls of plclause, plprogram, pllibrary
-//! and plerror.
+//! Tests of clauses and their keys, and of error terms, from the public calls of plclause, plevent and plerror.
 #![tactic(auto)]
 
 #[cfg(test)]
@@ -9,12 +8,10 @@ mod errors;
 #[cfg(test)]
 mod indicators;
 #[cfg(test)]
-mod parts;
+mod keys;
 #[cfg(test)]
-mod programs;
+mod parts;
 #[cfg(test)]
 mod rows;
 #[cfg(test)]
 mod sequences;
-#[cfg(test)]
-mod settings;

@@ -1,10 +1,10 @@
 //! What a journal says of the end of a run (plevent).
 ghost use Rattle.std.specs.Prelude.{◌≡◌, ◌<◌, ◌^◌, IfOk};
 
-use crate::made::fact;
+use plclause::form::{ClauseForm, clause_of};
 use plevent::standing::Standing;
 use plevent::{Batch, ThreadEnd, ThreadId, Update, WorkerId};
-use plterm::error::TermError;
+use plreadmade::made::term_of;
 use std::alloc::{AllocError, Global};
 use std::test::Fail;
 
@@ -75,9 +75,25 @@ fn has_one(batch: &Batch) -> bool {
     matches!(batch.as_slice(), [Update::First(_)])
 }
 
-/// Whether a batch of one such update has that one.
-fn has_its_own(alloc: Global) -> Result<bool, TermError> {
-    let batch = Batch::of(Update::First(fact(alloc, None)?));
+/// The form of the clause p(a).
+fn form(alloc: Global) -> Result<ClauseForm, Fail> {
+    let term = term_of(alloc, "p(a)")?;
+    Ok(clause_of(alloc, &term)?)
+}
+
+/// A batch of one such update.
+fn batch(alloc: Global) -> Result<Batch, Fail> {
+    match form(alloc)? {
+        ClauseForm::IsClause(clause) => Ok(Batch::of(Update::First(clause))),
+        ClauseForm::NoHead | ClauseForm::BadHead(_) | ClauseForm::BadBody(_) => Err(
+            "no clause".into(),
+        ),
+    }
+}
+
+/// Whether such a batch has that one.
+fn has_its_own(alloc: Global) -> Result<bool, Fail> {
+    let batch = batch(alloc)?;
     Ok(has_one(&batch))
 }
 
