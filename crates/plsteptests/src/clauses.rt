@@ -167,7 +167,7 @@ fn declare_one(machine: &mut Machine) -> Result<(), Fail>
 }
 
 /// The call.
-fn call(program: &Program, machine: &mut Machine, by: Call) -> Result<(), Fail>
+fn make_call(program: &Program, machine: &mut Machine, by: Call) -> Result<(), Fail>
     requires { IsReady program.now machine.old }
 {
     match by {
@@ -187,7 +187,7 @@ fn call(program: &Program, machine: &mut Machine, by: Call) -> Result<(), Fail>
 
 impl Doing for Call {
     fn tell(&self, program: &Program, machine: &mut Machine) -> Result<String, Fail> {
-        call(program, machine, *self)?;
+        make_call(program, machine, *self)?;
         told(machine.alloc, machine)
     }
 }

@@ -132,7 +132,7 @@ fn throw(machine: &mut Machine) -> Result<(), Fail> {
 }
 
 /// The call.
-fn call(machine: &mut Machine, by: Call) -> Result<(), Fail>
+fn make_call(machine: &mut Machine, by: Call) -> Result<(), Fail>
     requires { (P : Given) × IsReady P machine.old }
 {
     match by {
@@ -155,7 +155,7 @@ fn call(machine: &mut Machine, by: Call) -> Result<(), Fail>
 
 impl Doing for Call {
     fn tell(&self, program: &Program, machine: &mut Machine) -> Result<String, Fail> {
-        call(machine, *self)?;
+        make_call(machine, *self)?;
         told(machine.alloc, machine)
     }
 }

@@ -1,4 +1,4 @@
 use Rattle.plsteptests.proofs.running.CallDoing.tell.Goals as goal
 
-pub call-requires : goal.call-requires
-call-requires c = (c.args.program.now, c.requires)
+pub make_call-requires : goal.make_call-requires
+make_call-requires c = (c.args.program.now, c.requires)

@@ -1,4 +1,4 @@
-use Rattle.plsteptests.proofs.clauses.call.Goals as goal
+use Rattle.plsteptests.proofs.clauses.make_call.Goals as goal
 
 pub publish-requires : goal.publish-requires
 publish-requires c = (c.args.program.now, c.requires)
