@@ -118,7 +118,7 @@ fn number_behind(stack: &mut Stack) -> Result<usize, Fail> {
     Ok(made.rest.extent())
 }
 
-/// Numbers of the visited list, one after the other: where it has goals of a clause before its rest it is a new list each time, and so is
+/// ListNumbers of the visited list, one after the other: where it has goals of a clause before its rest it is a new list each time, and so is
 /// the list behind them where they are put before it.
 fn numbers(stack: &mut Stack) -> Result<(usize, usize, usize), Fail> {
     let first = visited_number(stack)?;
@@ -128,9 +128,9 @@ fn numbers(stack: &mut Stack) -> Result<(usize, usize, usize), Fail> {
 
 /// The numbers of lists.
 #[derive(Clone, Copy)]
-struct Numbers;
+struct ListNumbers;
 
-impl Doing for Numbers {
+impl Doing for ListNumbers {
     fn tell(&self, stack: &mut Stack, alloc: Global) -> Result<String, Fail> {
         let (first, second, behind) = numbers(stack)?;
         Ok(format!(in alloc; "{first} {second} {behind}")?)
@@ -140,7 +140,7 @@ impl Doing for Numbers {
 // The list of the goal p, which is called, is the first one.
 #[test]
 fn numbers_of_lists(rt: HostRuntime) -> Result<(), Fail> {
-    let found = told_of(rt.alloc(), "p :- q, r.", "p", &Numbers)?;
+    let found = told_of(rt.alloc(), "p :- q, r.", "p", &ListNumbers)?;
     assert_eq!(rt; found.as_str(), "2 3 4");
     Ok(())
 }
