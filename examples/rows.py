@@ -11,15 +11,16 @@ import sys
 
 HERE = os.path.dirname(os.path.realpath(__file__))
 MADE = os.path.join(os.path.dirname(HERE), "crates", "plrows", "src")
-# A constant of more programs takes the prover more steps than it has for one declaration.
+# A constant of more programs takes the prover more steps than it has for one declaration, and one of longer groups more time.
 MOST = 7
+GROUP = 3
 TEXT = '''//! The programs of `examples/` from `{first}` to `{last}`, each with its output. `examples/rows.py` writes this file.
 use plhist::Status;
 use plrow::row::{{RUN, Row, first_wrong}};
 use std::test::Fail;
 
-const EXAMPLES: [Row; {count}] = [
-{rows}
+const EXAMPLES: [&[Row]; {count}] = [
+{groups}
 ];
 
 #[test]
@@ -53,7 +54,13 @@ def row(path):
     output = read(path)
     lines = [f"// {os.path.basename(path)[:-4]}", "(", "    RUN,", f"    {literal(read(path[:-4] + '.pl'))},"]
     lines += [f"    {literal(output).replace(chr(10), chr(92) + 'n')},", f"    {status(output)},", "),"]
-    return ["    " + line for line in lines]
+    return ["        " + line for line in lines]
+
+
+def groups(paths):
+    """The lines of some programs' rows, in groups."""
+    for at in range(0, len(paths), GROUP):
+        yield from ["    &[", *(line for path in paths[at : at + GROUP] for line in row(path)), "    ],"]
 
 
 def made():
@@ -62,7 +69,8 @@ def made():
     files = {}
     for paths in (outputs[at : at + MOST] for at in range(0, len(outputs), MOST)):
         first, last = (os.path.basename(path)[:-4] for path in (paths[0], paths[-1]))
-        text = TEXT.format(first=first, last=last, count=len(paths), rows="\n".join(line for path in paths for line in row(path)))
+        count = -(-len(paths) // GROUP)
+        text = TEXT.format(first=first, last=last, count=count, groups="\n".join(groups(paths)))
         files[f"examples_{first}_to_{last}.rt"] = text
     return files
 

@@ -11,8 +11,10 @@ import sys
 
 HERE = os.path.dirname(os.path.realpath(__file__))
 PATH = os.path.join(HERE, "src", "pairs.rt")
-GROUPS = ["FIRST", "SECOND", "THIRD", "FOURTH", "FIFTH"]
-GROUP = 40
+NAMES = ["FIRST", "SECOND", "THIRD", "FOURTH", "FIFTH"]
+# How many pairs a table has, and each group of it, since a long group takes the prover long.
+TABLE = 40
+GROUP = 8
 VARIABLES = ["X", "Y", "Z", "U"]
 ATOMS = ["a", "b"]
 COMPOUNDS = 7
@@ -44,22 +46,28 @@ def told(pairs):
 
 def row(goal, answer):
     """A row as it is formatted."""
-    line = f'    ("{goal}", "{answer}"),\n'
-    return line if len(line) <= 68 else f'    (\n        "{goal}",\n        "{answer}",\n    ),\n'
+    line = f'        ("{goal}", "{answer}"),\n'
+    return line if len(line) <= 72 else f'        (\n            "{goal}",\n            "{answer}",\n        ),\n'
+
+
+def table(name, rows):
+    """A constant of some rows in groups."""
+    groups = [rows[at : at + GROUP] for at in range(0, len(rows), GROUP)]
+    return f"\nconst {name}: [&[(&str, &str)]; {len(groups)}] = [\n" + "".join("    &[\n" + "".join(group) + "    ],\n" for group in groups) + "];\n"
 
 
 def main():
     random_ = random.Random(7)
     pairs = []
-    while len(pairs) < GROUP * len(GROUPS):
+    while len(pairs) < TABLE * len(NAMES):
         left, right = pair(random_)
         if len(left) + len(right) < 120 and (left, right) not in pairs:
             pairs.append((left, right))
     rows = [row(f"{left} = {right}", answer) for (left, right), answer in zip(pairs, told(pairs), strict=True)]
     text = HEAD
-    for number, name in enumerate(GROUPS):
-        group = rows[number * GROUP : (number + 1) * GROUP]
-        text += f"\npub(crate) const {name}: [(&str, &str); {GROUP}] = [\n" + "".join(group) + "];\n"
+    for number, name in enumerate(NAMES):
+        text += table(name, rows[number * TABLE : (number + 1) * TABLE])
+    text += f"\n/// All of them, in groups.\npub(crate) const PAIRS: [&[&[(&str, &str)]]; {len(NAMES)}] = [{', '.join('&' + name for name in NAMES)}];\n"
     if sys.argv[1:] == ["--check"]:
         with open(PATH, encoding="utf-8") as file:
             same = file.read() == text

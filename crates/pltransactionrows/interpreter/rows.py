@@ -1,9 +1,11 @@
-"""The rows of a file of tests: its constants that are arrays of tuples, with the comment in front of each row."""
+"""The rows of a file of tests: its constants that are groups of tuples, with the comment in front of each row."""
 import re
 
 TOKEN = re.compile(r'\s+|(?P<comment>//[^\n]*)|(?P<text>"(?:[^"\\]|\\.)*")|(?P<word>[A-Za-z_][A-Za-z0-9_]*(?:::[A-Za-z_][A-Za-z0-9_]*)*)|(?P<number>[0-9]+)|(?P<mark>.)', re.S)
-ARRAY = re.compile(r"^/// ([^\n]*)\n(?:pub )?const ([A-Z_]+): \[(\w+); (\d+)\] = \[", re.M)
+ARRAY = re.compile(r"^/// ([^\n]*)\n(?:pub )?const ([A-Z_]+): \[&\[(\w+)\]; (\d+)\] = \[", re.M)
 TEXT = re.compile(r'^(?:pub )?const ([A-Z_]+): &str =\s*("(?:[^"\\]|\\.)*");', re.M)
+# The types of a row that is a struct.
+ROWS = ("Case", "Limited", "Journaled", "Spent")
 ESCAPES = {"n": "\n", "t": "\t", "r": "\r", "0": "\0", "\\": "\\", '"': '"', "'": "'"}
 
 
@@ -55,7 +57,8 @@ class Reader:
         word = self.take()
         if self.value == "(":
             self.next()
-            return f"{word}({','.join(map(str, self.items(')')))})"
+            items = self.items(")")
+            return items if word in ROWS else f"{word}({','.join(map(str, items))})"
         if self.value == "{":
             self.next()
             fields = []
@@ -88,7 +91,20 @@ class Reader:
             if self.value == ",":
                 self.next()
             self.comment = kept + self.comment
+        self.next()
         return found
+
+    def groups(self):
+        """How many groups there are up to the array's end, and the rows of all of them."""
+        count, found = 0, []
+        while self.value == "&":
+            self.next()
+            self.next()
+            found += self.rows()
+            count += 1
+            if self.value == ",":
+                self.next()
+        return count, found
 
 
 class Array:
@@ -108,9 +124,9 @@ def arrays(path, shared=()):
     text = read(path)
     texts = {found[1]: unescaped(found[2]) for held in [*map(read, shared), text] for found in TEXT.finditer(held)}
     for found in ARRAY.finditer(text):
-        rows = Reader(text, found.end()).rows()
-        if len(rows) != int(found[4]):
-            raise ValueError(f"{path}: {found[2]} has {len(rows)} rows and not {found[4]}")
+        count, rows = Reader(text, found.end()).groups()
+        if count != int(found[4]):
+            raise ValueError(f"{path}: {found[2]} has {count} groups and not {found[4]}")
         for row in rows:
             row.fields = [texts.get(field, field) if isinstance(field, str) else field for field in row.fields]
         yield Array(found[2], found[1], found[3], rows)
