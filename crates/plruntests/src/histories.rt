@@ -38,45 +38,85 @@ fn act_of(end: ThreadEnd) -> Act {
     }
 }
 
+/// Adds an act of the worker and the thread of a number.
+fn put_act(entries: &mut Vec<Entry>, of: u32, act: Act) -> Result<(), AllocError> {
+    entries.push(Entry {
+        worker: WorkerId::new(of),
+        thread: ThreadId::new(of),
+        act,
+    })?;
+    Ok(())
+}
+
+/// Adds the end of main.
+fn put_end(alloc: Global, entries: &mut Vec<Entry>, word: &str) -> Result<(), AllocError> {
+    let end = end_of(alloc, word)?;
+    put_act(entries, 1, act_of(end))
+}
+
+/// Adds the program, and the start and the end of main.
+fn put_acts(alloc: Global, entries: &mut Vec<Entry>, word: &str) -> Result<(), AllocError> {
+    put_act(entries, 0, Act::Batch(Batch::new(Vec::new(alloc))))?;
+    put_act(entries, 1, Act::Start)?;
+    put_end(alloc, entries, word)
+}
+
 /// The journal of a run in which main ends so.
-fn journal_of(alloc: Global, end: ThreadEnd) -> Result<Journal, AllocError> {
+fn journal_of(alloc: Global, word: &str) -> Result<Journal, AllocError> {
     let mut entries = Vec::new(alloc);
-    for (of, act) in [
-        (0, Act::Batch(Batch::new(Vec::new(alloc)))),
-        (1, Act::Start),
-        (1, act_of(end)),
-    ] {
-        entries.push(Entry {
-            worker: WorkerId::new(of),
-            thread: ThreadId::new(of),
-            act,
-        })?;
-    }
+    put_acts(alloc, &mut entries, word)?;
     Ok(Journal::new(entries))
 }
 
-/// The runs of one in which main ends so.
-fn runs_of(alloc: Global, end: ThreadEnd, output: &str) -> Result<Runs, AllocError> {
-    let mut runs = Vec::new(alloc);
-    runs.push(Run {
+/// The place of main's one step.
+fn places(alloc: Global) -> Result<Places, AllocError> {
+    let places = Vec::from_slice(alloc, &[JournalPlace::new(2)])?;
+    Ok(Places::new(places))
+}
+
+/// The output of a text.
+fn output_of(alloc: Global, text: &str) -> Result<Output, AllocError> {
+    let text = Vec::from_slice(alloc, text.as_bytes())?;
+    Ok(Output::new(text))
+}
+
+/// The run of main.
+fn main_of(places: Places, end: ThreadEnd, output: Output) -> Run {
+    Run {
         thread: ThreadId::MAIN,
-        places: Places::new(Vec::from_slice(alloc, &[JournalPlace::new(2)])?),
+        places,
         steps: 1,
         end: RunEnd::Ended(end),
-        output: Output::new(Vec::from_slice(alloc, output.as_bytes())?),
-    })?;
+        output,
+    }
+}
+
+/// The run in which main ends so.
+fn run_of(alloc: Global, word: &str, output: &str) -> Result<Run, AllocError> {
+    let places = places(alloc)?;
+    let output = output_of(alloc, output)?;
+    let end = end_of(alloc, word)?;
+    Ok(main_of(places, end, output))
+}
+
+/// The runs of one in which main ends so.
+fn runs_of(alloc: Global, word: &str, output: &str) -> Result<Runs, AllocError> {
+    let run = run_of(alloc, word, output)?;
+    let runs = vec![in alloc; run]?;
     Ok(Runs::new(runs))
 }
 
 /// A history in which main ends so.
 fn history_of(alloc: Global, word: &str, output: &str) -> Result<History, AllocError> {
-    let journal = journal_of(alloc, end_of(alloc, word)?)?;
-    let runs = runs_of(alloc, end_of(alloc, word)?, output)?;
+    let journal = journal_of(alloc, word)?;
+    let runs = runs_of(alloc, word, output)?;
     Ok(History { journal, runs })
 }
 
 /// The word of main's end, its output, the report, and the status.
-const REPORTS: [(&str, &str, &str, u8); 8] = [
+type Row = (&'static str, &'static str, &'static str, u8);
+
+const REPORTS: [Row; 8] = [
     ("true", "hello\n", "% thread 1 main: true\nhello\n", 0),
     ("true", "1", "% thread 1 main: true\n1\n", 0),
     ("true", "", "% thread 1 main: true\n", 0),
@@ -87,54 +127,91 @@ const REPORTS: [(&str, &str, &str, u8); 8] = [
     ("halt", "a", "% thread 1 main: halt(44)\na\n", 44),
 ];
 
-/// The report of a run in which main ends so, and its status.
-fn reported(
+/// Whether these are the report and the status of a history.
+fn is_reported(
     alloc: Global,
     ops: &OpTable,
-    word: &str,
-    output: &str,
-) -> Result<(Vec<u8>, u8), AllocError> {
+    history: &History,
+    text: &str,
+    status: u8,
+) -> Result<bool, AllocError> {
+    let report = report_text(alloc, history, ops)?;
+    let number = status_of(&history.journal).number();
+    Ok(report.as_slice() == text.as_bytes() && number == status)
+}
+
+/// Whether a row is right.
+fn is_right(alloc: Global, ops: &OpTable, row: &Row) -> Result<bool, AllocError> {
+    let (word, output, text, status) = row;
     let history = history_of(alloc, word, output)?;
-    let report = report_text(alloc, &history, ops)?;
-    Ok((report, status_of(&history.journal).number()))
+    is_reported(alloc, ops, &history, text, *status)
+}
+
+/// The place of the first row that is wrong.
+fn wrong_report(alloc: Global, ops: &OpTable) -> Result<Option<usize>, AllocError> {
+    for (place, row) in REPORTS.iter().enumerate() {
+        if !is_right(alloc, ops, row)? {
+            return Ok(Some(place));
+        }
+    }
+    Ok(None)
+}
+
+/// The same with the operators of the standard.
+fn wrong(alloc: Global) -> Result<Option<usize>, AllocError> {
+    let ops = OpTable::iso(alloc)?;
+    wrong_report(alloc, &ops)
 }
 
 #[test]
 fn reports(rt: HostRuntime) -> Result<(), Fail> {
-    let ops = OpTable::iso(rt.alloc())?;
-    for (word, output, text, wanted) in REPORTS {
-        let (report, number) = reported(rt.alloc(), &ops, word, output)?;
-        assert!(rt;
-            report.as_slice() == text.as_bytes() && number == wanted,
-            "{word}"
-        );
-    }
+    assert_eq!(rt; wrong(rt.alloc())?, None);
     Ok(())
 }
 
-#[test]
-fn tells_a_refusal(rt: HostRuntime) -> Result<(), Fail> {
-    let text = refusal_text(rt.alloc(), 3, 1, RefusalKind::Lex)?;
-    assert!(rt; text.as_slice() == b"refused: line 3 column 1: lex\n".as_slice());
+/// The number of the status of a refusal, and whether it has no line of its own.
+fn told_of_refusal() -> (u8, bool) {
     let status = Status::Refused {
         line: 3,
         column: 1,
         kind: RefusalKind::Lex,
     };
-    assert_eq!(rt; status.number(), 65);
-    assert!(rt; status.line().is_none());
+    (status.number(), status.line().is_none())
+}
+
+/// Whether the text of a refusal is this.
+fn is_refusal_text(alloc: Global, wanted: &[u8]) -> Result<bool, AllocError> {
+    let text = refusal_text(alloc, 3, 1, RefusalKind::Lex)?;
+    Ok(text.as_slice() == wanted)
+}
+
+#[test]
+fn tells_a_refusal(rt: HostRuntime) -> Result<(), Fail> {
+    assert!(rt; is_refusal_text(rt.alloc(), b"refused: line 3 column 1: lex\n")?);
+    assert!(rt; told_of_refusal() == (65, true));
     Ok(())
+}
+
+/// A kind of refusal, and its word.
+const KINDS: [(RefusalKind, &str); 5] = [
+    (RefusalKind::Lex, "lex"),
+    (RefusalKind::Syntax, "syntax"),
+    (RefusalKind::NotCallable, "not_callable"),
+    (RefusalKind::StaticRedefined, "static_redefined"),
+    (RefusalKind::BadDirective, "bad_directive"),
+];
+
+/// The place of the first of these rows that is wrong.
+fn wrong_kind() -> Option<usize> {
+    for (place, (kind, word)) in KINDS.iter().enumerate() {
+        if kind_word(*kind) != *word {
+            return Some(place);
+        }
+    }
+    None
 }
 
 #[test]
 fn kinds_of_refusals(rt: HostRuntime) {
-    for (kind, word) in [
-        (RefusalKind::Lex, "lex"),
-        (RefusalKind::Syntax, "syntax"),
-        (RefusalKind::NotCallable, "not_callable"),
-        (RefusalKind::StaticRedefined, "static_redefined"),
-        (RefusalKind::BadDirective, "bad_directive"),
-    ] {
-        assert_eq!(rt; kind_word(kind), word);
-    }
+    assert_eq!(rt; wrong_kind(), None);
 }

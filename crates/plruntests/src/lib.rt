@@ -1,4 +1,4 @@
-//! Tests of the crates of the database and the run, and of packed values, from the public calls of each.
+//! Tests of the journal and of what a run leaves, and of packed values, from the public calls of each crate.
 #![tactic(auto)]
 
 #[cfg(test)]
@@ -6,16 +6,6 @@ mod events;
 #[cfg(test)]
 mod histories;
 #[cfg(test)]
-mod made;
-#[cfg(test)]
-mod owns;
-#[cfg(test)]
-mod stores;
-#[cfg(test)]
 mod values;
-#[cfg(test)]
-mod views;
-#[cfg(test)]
-mod walks;
 #[cfg(test)]
 mod worlds;

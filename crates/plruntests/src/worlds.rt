@@ -1,5 +1,5 @@
 //! The journal and its requests (plworld): what is asked of a world, one thing after the other, and what it tells, with its journal at the end.
-use crate::made::{clause, indicator};
+use plclausemade::made::{Change, batch, indicator};
 use plevent::{
     Act, Batch, ClauseName, Entry, JournalPlace, Key, Reply, Request, ThreadEnd, ThreadId, Update,
     WorkerId,
@@ -62,10 +62,8 @@ fn named(place: u64, number: u64) -> ClauseName {
 }
 
 /// A batch with the clause `p.` behind all others.
-fn batch(alloc: Global) -> Result<Batch, TermError> {
-    let mut updates = Vec::new(alloc);
-    updates.push(Update::Last(clause(alloc, "true")?))?;
-    Ok(Batch::new(updates))
+fn one_clause(alloc: Global) -> Result<Batch, TermError> {
+    batch(alloc, &[Change::Last("true")])
 }
 
 /// A batch of nothing.
@@ -74,16 +72,16 @@ fn nothing(alloc: Global) -> Batch {
 }
 
 fn request_of(alloc: Global, asked: Asked) -> Result<Request, TermError> {
-    Ok(match asked {
-        Asked::Start(_) => Request::Start,
-        Asked::Publish => Request::Publish(batch(alloc)?),
-        Asked::PublishNothing => Request::Publish(nothing(alloc)),
-        Asked::Erase(place, number) => Request::EraseOne(named(place, number)),
-        Asked::Fail => Request::Finish(ThreadEnd::False),
-        Asked::Succeed => Request::Finish(ThreadEnd::True),
-        Asked::Halt => Request::HaltRun(44),
-        Asked::Leave => Request::Leave,
-    })
+    match asked {
+        Asked::Start(_) => Ok(Request::Start),
+        Asked::Publish => Ok(Request::Publish(one_clause(alloc)?)),
+        Asked::PublishNothing => Ok(Request::Publish(nothing(alloc))),
+        Asked::Erase(place, number) => Ok(Request::EraseOne(named(place, number))),
+        Asked::Fail => Ok(Request::Finish(ThreadEnd::False)),
+        Asked::Succeed => Ok(Request::Finish(ThreadEnd::True)),
+        Asked::Halt => Ok(Request::HaltRun(44)),
+        Asked::Leave => Ok(Request::Leave),
+    }
 }
 
 /// A reply by a word of its own.
@@ -108,13 +106,18 @@ fn reply_word(reply: &Reply) -> &'static str {
     }
 }
 
-/// The reply to what a worker asks, by a word of its own.
-fn ask(alloc: Global, world: &mut World, asked: Asked) -> Result<&'static str, TermError> {
-    let request = request_of(alloc, asked)?;
-    let (worker, thread) = match asked {
+/// The worker and the thread that ask.
+fn asking(asked: Asked) -> (WorkerId, ThreadId) {
+    match asked {
         Asked::Start(worker) => (WorkerId::new(worker), ThreadId::NONE),
         _ => (WorkerId::FIRST, ThreadId::MAIN),
-    };
+    }
+}
+
+/// The reply to what a worker asks, by a word of its own.
+fn ask(alloc: Global, world: &mut World, asked: Asked) -> Result<&'static str, TermError> {
+    let (worker, thread) = asking(asked);
+    let request = request_of(alloc, asked)?;
     let reply = world.step(alloc, worker, thread, request)?;
     Ok(reply_word(&reply))
 }
@@ -135,51 +138,66 @@ fn truth(is: bool) -> &'static str {
     if is { "yes" } else { "no" }
 }
 
-/// What is found by a word, or the place of the clause.
-fn found_word(alloc: Global, found: &Found) -> Result<String, AllocError> {
-    let word = match found {
-        Found::Next(Some(name)) => {
-            return format!(in alloc; "{}", name.place);
-        }
-        Found::Next(None) => "none",
-        Found::Clause(clause) => truth(clause.is_some()),
-        Found::Alive(is) | Found::Exists(is) => truth(*is),
-    };
-    word.to_string(alloc)
+/// Adds what is found by a word, or the place of the clause.
+fn put_found(told: &mut String, found: &Found) -> Result<(), AllocError> {
+    match found {
+        Found::Next(Some(name)) => write!(told, "{}", name.place),
+        Found::Next(None) => told.push_str("none"),
+        Found::Clause(clause) => told.push_str(truth(clause.is_some())),
+        Found::Alive(is) | Found::Exists(is) => told.push_str(truth(*is)),
+    }
 }
 
-/// What is found in a world at a time.
-fn look(alloc: Global, world: &World, g: u64, looked: Looked) -> Result<String, AllocError> {
+/// Adds what is found in a world at a time.
+fn look(
+    alloc: Global,
+    told: &mut String,
+    world: &World,
+    g: u64,
+    looked: Looked,
+) -> Result<(), AllocError> {
     let query = query_of(alloc, looked)?;
     let found = world.look(JournalPlace::new(g), &query)?;
-    found_word(alloc, &found)
+    put_found(told, &found)
 }
 
-/// What a world tells when it is moved so.
-fn moved(alloc: Global, world: &mut World, by: Move) -> Result<String, TermError> {
-    let word = match by {
-        Move::Ask(asked) => ask(alloc, world, asked)?,
-        Move::Look(g, looked) => return Ok(look(alloc, world, g, looked)?),
-        Move::IsOver => truth(world.is_over()),
-        Move::Front => return Ok(format!(in alloc; "{}", world.front().get())?),
-        Move::Entries => return Ok(format!(in alloc; "{}", world.entries().len())?),
-        Move::Stop => {
-            world.stop();
-            "stop"
-        }
-        Move::IsStopped => truth(world.stopped()),
-    };
-    Ok(word.to_string(alloc)?)
+/// What a world that is stopped now tells.
+fn stop(world: &mut World) -> &'static str {
+    world.stop();
+    "stop"
 }
 
-/// What a world tells when it is moved so, one after the other.
-fn told(alloc: Global, world: &mut World, moves: &[Move]) -> Result<String, TermError> {
-    let mut told = String::new(alloc);
-    for by in moves {
-        let word = moved(alloc, world, *by)?;
-        write!(told, "{word}, ")?;
+/// Adds what a world tells when it is moved so.
+fn put_word(
+    alloc: Global,
+    told: &mut String,
+    world: &mut World,
+    by: Move,
+) -> Result<(), TermError> {
+    match by {
+        Move::Ask(asked) => told.push_str(ask(alloc, world, asked)?)?,
+        Move::Look(g, looked) => look(alloc, told, world, g, looked)?,
+        Move::IsOver => told.push_str(truth(world.is_over()))?,
+        Move::Front => write!(told, "{}", world.front().get())?,
+        Move::Entries => write!(told, "{}", world.entries().len())?,
+        Move::Stop => told.push_str(stop(world))?,
+        Move::IsStopped => told.push_str(truth(world.stopped()))?,
     }
-    Ok(told)
+    Ok(())
+}
+
+/// Adds what a world tells when it is moved so, one after the other.
+fn put_words(
+    alloc: Global,
+    told: &mut String,
+    world: &mut World,
+    moves: &[Move],
+) -> Result<(), TermError> {
+    for by in moves {
+        put_word(alloc, told, world, *by)?;
+        told.push_str(", ")?;
+    }
+    Ok(())
 }
 
 /// What an entry is of, by a word of its own.
@@ -200,9 +218,8 @@ fn act_word(act: &Act) -> &'static str {
     }
 }
 
-/// The workers, threads and acts of a journal.
-fn journal(alloc: Global, entries: &[Entry]) -> Result<String, AllocError> {
-    let mut told = String::new(alloc);
+/// Adds the workers, threads and acts of a journal.
+fn put_journal(told: &mut String, entries: &[Entry]) -> Result<(), AllocError> {
     for entry in entries {
         let word = act_word(&entry.act);
         write!(
@@ -212,24 +229,80 @@ fn journal(alloc: Global, entries: &[Entry]) -> Result<String, AllocError> {
             entry.thread.get()
         )?;
     }
-    Ok(told)
+    Ok(())
 }
 
-/// What a world tells that is opened with a batch and moved so, and its journal then.
-fn run(alloc: Global, first: &Batch, moves: &[Move]) -> Result<(String, String), TermError> {
+/// A world that is opened with a batch and moved so. What it tells is added.
+fn moved(
+    alloc: Global,
+    told: &mut String,
+    first: &Batch,
+    moves: &[Move],
+) -> Result<World, TermError> {
     let mut world = World::open(alloc, first)?;
-    let told = told(alloc, &mut world, moves)?;
-    let journal = journal(alloc, world.close().as_slice())?;
-    Ok((told, journal))
+    put_words(alloc, told, &mut world, moves)?;
+    Ok(world)
 }
 
-/// The same of a world whose program has nothing in it.
-fn run_alone(alloc: Global, moves: &[Move]) -> Result<(String, String), TermError> {
-    run(alloc, &nothing(alloc), moves)
+/// Adds what a world tells that is opened with a batch and moved so, and its journal then.
+fn run(
+    alloc: Global,
+    told: &mut String,
+    journal: &mut String,
+    first: &Batch,
+    moves: &[Move],
+) -> Result<(), TermError> {
+    let world = moved(alloc, told, first, moves)?;
+    let entries = world.close();
+    put_journal(journal, entries.as_slice())?;
+    Ok(())
 }
 
 /// Moves of a world whose program has nothing in it, what it tells, and its journal.
-const MOVES: [(&[Move], &str, &str); 11] = [
+type Row = (&'static [Move], &'static str, &'static str);
+
+/// Adds what a world tells whose program has nothing in it, and its journal then.
+fn run_alone(
+    alloc: Global,
+    told: &mut String,
+    journal: &mut String,
+    moves: &[Move],
+) -> Result<(), TermError> {
+    let first = nothing(alloc);
+    run(alloc, told, journal, &first, moves)
+}
+
+/// Whether a row is right, of which nothing is told yet.
+fn is_right_in(
+    alloc: Global,
+    told: &mut String,
+    journal: &mut String,
+    row: &Row,
+) -> Result<bool, TermError> {
+    let (moves, wanted, entries) = *row;
+    run_alone(alloc, told, journal, moves)?;
+    Ok(told.as_str() == wanted && journal.as_str() == entries)
+}
+
+/// Whether a row is right.
+fn is_right(alloc: Global, row: &Row) -> Result<bool, TermError> {
+    let mut told = String::new(alloc);
+    let mut journal = String::new(alloc);
+    is_right_in(alloc, &mut told, &mut journal, row)
+}
+
+/// The place of the first row that is wrong.
+fn wrong_row(alloc: Global, rows: &[Row]) -> Result<Option<usize>, TermError> {
+    for (place, row) in rows.iter().enumerate() {
+        if !is_right(alloc, row)? {
+            return Ok(Some(place));
+        }
+    }
+    Ok(None)
+}
+
+/// Starts, batches, and ends of the run.
+const STARTS_AND_ENDS: [Row; 4] = [
     // The first thread that is started is main, thread 1, which has the program's goals and none of its own.
     (
         &[Move::Ask(Asked::Start(1))],
@@ -276,6 +349,10 @@ const MOVES: [(&[Move], &str, &str); 11] = [
         "main is started, published, done, yes, stopped, stopped, ",
         "0.0 nothing, 1.1 start, 1.1 a clause, 1.1 halt, ",
     ),
+];
+
+/// Erasures, and queries of their times.
+const ERASURES: [Row; 4] = [
     // A clause is erased once, by one entry more, and is there up to that entry's place. The second time it is gone.
     (
         &[
@@ -340,6 +417,10 @@ const MOVES: [(&[Move], &str, &str); 11] = [
         "main is started, published, done, stopped, stopped, 4, yes, ",
         "0.0 nothing, 1.1 start, 1.1 a clause, 1.1 halt, ",
     ),
+];
+
+/// Threads that leave, and a world that is stopped.
+const LEAVES: [Row; 3] = [
     // Behind a halt main leaves, by one entry more. The second time nothing is added, and a batch is stopped.
     (
         &[
@@ -385,14 +466,19 @@ const MOVES: [(&[Move], &str, &str); 11] = [
     ),
 ];
 
+/// The first wrong row of each of these tables.
+fn wrong_rows(alloc: Global) -> Result<[Option<usize>; 3], TermError> {
+    Ok([
+        wrong_row(alloc, &STARTS_AND_ENDS)?,
+        wrong_row(alloc, &ERASURES)?,
+        wrong_row(alloc, &LEAVES)?,
+    ])
+}
+
 #[test]
 fn rows_of_moves(rt: HostRuntime) -> Result<(), Fail> {
-    let alloc = rt.alloc();
-    for (moves, wanted, entries) in MOVES {
-        let (told, journal) = run_alone(alloc, moves)?;
-        assert_eq!(rt; told.as_str(), wanted);
-        assert_eq!(rt; journal.as_str(), entries);
-    }
+    let found = wrong_rows(rt.alloc())?;
+    assert!(rt; found == [None; 3], "{found:?}");
     Ok(())
 }
 
@@ -407,13 +493,24 @@ const EARLY: &[Move] = &[
     Move::Ask(Asked::Erase(0, 0)),
 ];
 
+/// Adds what a world with that program tells.
+fn tell_early(alloc: Global, told: &mut String) -> Result<(), TermError> {
+    let first = one_clause(alloc)?;
+    let world = moved(alloc, told, &first, EARLY)?;
+    world.close();
+    Ok(())
+}
+
+/// Whether what a world with that program tells is this.
+fn is_early(alloc: Global, wanted: &str) -> Result<bool, TermError> {
+    let mut told = String::new(alloc);
+    tell_early(alloc, &mut told)?;
+    Ok(told.as_str() == wanted)
+}
+
 #[test]
 fn no_erasure_before_a_start(rt: HostRuntime) -> Result<(), Fail> {
-    let alloc = rt.alloc();
-    let (told, _) = run(alloc, &batch(alloc)?, EARLY)?;
-    assert_eq!(rt;
-        told.as_str(),
-        "no erasure yet, no erasure yet, 1, main is started, erased, gone, "
-    );
+    let wanted = "no erasure yet, no erasure yet, 1, main is started, erased, gone, ";
+    assert!(rt; is_early(rt.alloc(), wanted)?);
     Ok(())
 }
