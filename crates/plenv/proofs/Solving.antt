@@ -36,7 +36,7 @@ within_counted m e k w = record { heap = w.heap; old = w.old; noted = w.noted }
 within_before : (m : Mark) (e : Env) (k : ℕ) → IsWithin m (counted k e) → IsWithin m e
 within_before m e k w = record { heap = w.heap; old = w.old; noted = w.noted }
 
-keeps-counted : (e new : Env) (k : ℕ) → Keeps e new → Keeps (counted k e) new
+pub keeps-counted : (e new : Env) (k : ℕ) → Keeps e new → Keeps (counted k e) new
 unfolding cut cut_heap
 keeps-counted e new k x = record { within = λ m w. x.within m (within_before m e k w); kept = λ m w. x.kept m (within_before m e k w); names = x.names }
 
@@ -93,7 +93,7 @@ module _ (old mid one two new : Env) (q : Equation) (ws : List Cell) (a b : Cell
   put_count : two.count ≡ old.count + q.new
   put_count = right.count ∙ left.count ∙ has.count
 
-  pub unified : Unifies two new (value two.heap a) (value two.heap b) → Solves old new q
+  pub unified : Unifies two new (value two.heap a) (value two.heap b) → Solves old new (left_of old.heap old.count q) (right_of old.heap old.count q) q.new
   unfolding cut cut_heap
   unified u = record {
     unifier = u.unifier;
@@ -133,7 +133,10 @@ module _ (h : Store) (cells n : ℕ) (q : Equation) (is : IsEquation h q) where
   equation-noted = record { values = all_still h (bounded_by h cells) q.values.items (λ v f. (value-noted h h.trail cells v f).0) is.values; left = is.left; right = is.right }
 
 module _ (e new : Env) (cells slots : ℕ) (more_cells : e.heap.boundary ≤ cells) (more_slots : e.boundary ≤ slots) (q : Equation) (is : IsEquation e.heap q) (at_first : IsEnv e) (after : IsEnv new) where
-  pub solves-under : Solves (bounded cells slots e) new q → Solves e (bounded e.heap.boundary e.boundary new) q
+  abbrev pub SolvesIn : Env → Env → Type 0
+  SolvesIn x y = Solves x y (left_of x.heap x.count q) (right_of x.heap x.count q) q.new
+
+  pub solves-under : SolvesIn (bounded cells slots e) new → SolvesIn e (bounded e.heap.boundary e.boundary new)
   unfolding cut cut_heap
   solves-under s = record {
     unifier = s.unifier;

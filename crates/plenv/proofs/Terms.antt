@@ -87,9 +87,9 @@ module _ (e : Env) (h : Store) (t : Tree) (is : AreSlots e) (preserves : Preserv
       let s = stays-grown e h preserves.values preserves.keeps is in
       record { fits = puts.fits; is = puts.is; extends = s.extends; slots = s.slots; count = s.count }
 
-  pub slots-given : (r : Outcomes Cell AllocError) → IfOk r (λ v. PutsGiven e.heap h v t) → OnErr r (h ≡ renamed e.heap h.names) → AreSlots (over_heap e h e.count)
-  slots-given (Ok v) ok err = slots-over e h (λ w f. (preserves.values w f).0) ok.adds.fresh is
-  slots-given (Err x) ok err = slots-over e h (λ w f. (preserves.values w f).0) (λ n f. subst (λ s. IsFresh s n) (sym err) f) is
+  pub slots-given : {A : Type 0} (cell : A → Cell) (r : Outcomes A AllocError) → IfOk r (λ a. PutsGiven e.heap h (cell a) t) → OnErr r (h ≡ renamed e.heap h.names) → AreSlots (over_heap e h e.count)
+  slots-given cell (Ok a) ok err = slots-over e h (λ w f. (preserves.values w f).0) ok.adds.fresh is
+  slots-given cell (Err x) ok err = slots-over e h (λ w f. (preserves.values w f).0) (λ n f. subst (λ s. IsFresh s n) (sym err) f) is
 
 -- the term over new variables
 pub puts-new : (old mid new : Env) (vs : List Cell) (k : ℕ) (v : Cell) (t : Tree) → PutsVariables old mid vs k → AllBelow k t → Puts mid new v (bind (standing mid.heap vs) t) → PutsTerm old new v (shift old.count t) k

@@ -2,6 +2,7 @@
 ghost use Rattle.std.specs.Prelude.{◌≡◌, ◌<◌, ◌≤◌, length, map, IfOk, OnErr};
 ghost use Rattle.plterm.specs.Reading.{IsName};
 ghost use Rattle.plterm.specs.Tree.{atom, compound, trees};
+ghost use Rattle.plcells.specs.declared.cell.Cell.TheVariants.{Atom as AtomCell};
 ghost use Rattle.plcells.specs.Putting.{PutsTerm};
 ghost use Rattle.plcells.specs.Store.{renamed, value, AreValues, Preserves};
 ghost use Rattle.plenv.specs.Changes.{Puts, Stays};
@@ -12,15 +13,14 @@ use plcells::heap::Heap;
 use plterm::name::Name;
 use std::alloc::AllocError;
 
-/// Puts an atom on a heap: its value.
-fn atom_on(heap: &mut Heap, name: &Name) -> Result<Cell, AllocError>
+/// The number of an atom on a heap.
+fn atom_on(heap: &mut Heap, name: &Name) -> Result<u32, AllocError>
     requires { IsName name.now }
-    ensures ok { IfOk result (λ v. PutsTerm heap.old heap.new v (atom name.now)) }
+    ensures ok { IfOk result (λ a. PutsTerm heap.old heap.new (AtomCell a) (atom name.now)) }
     ensures preserves { Preserves heap.old heap.new }
     ensures err { OnErr result (heap.new ≡ renamed heap.old heap.new.names) }
 {
-    let a = heap.atom(name)?;
-    Ok(Cell::Atom(a))
+    heap.atom(name)
 }
 
 /// Puts a compound of values on a heap: its value.
@@ -38,13 +38,23 @@ fn compound_on(heap: &mut Heap, name: &Name, values: &[Cell]) -> Result<Cell, Al
 }
 
 impl Environment {
+    /// The number of an atom, which is a new one where the names do not have it.
+    pub fn atom(&mut self, name: &Name) -> Result<u32, AllocError>
+        requires { IsName name.now }
+        ensures ok { IfOk result (λ a. Puts self.old self.new (AtomCell a) (atom name.now)) }
+        ensures err { OnErr result (Stays self.old self.new) }
+    {
+        atom_on(&mut self.heap, name)
+    }
+
     /// Puts an atom: its value.
     pub fn put_atom(&mut self, name: &Name) -> Result<Cell, AllocError>
         requires { IsName name.now }
         ensures ok { IfOk result (λ v. Puts self.old self.new v (atom name.now)) }
         ensures err { OnErr result (Stays self.old self.new) }
     {
-        atom_on(&mut self.heap, name)
+        let a = self.atom(name)?;
+        Ok(Cell::Atom(a))
     }
 
     /// Puts a compound of values: its value.

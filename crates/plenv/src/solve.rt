@@ -12,9 +12,9 @@ use std::alloc::{AllocError, Global};
 impl Environment {
     /// Unifies the two terms of an equation in a choice, its new variables numbered from the count on: whether they have a unifier. Where they
     /// have none, or memory gives out, an undo to a mark in use gives back what was changed.
-    fn solve_in_choice(&mut self, alloc: Global, equation: Equation) -> Result<bool, AllocError>
+    pub fn solve_in_choice(&mut self, alloc: Global, equation: Equation) -> Result<bool, AllocError>
         requires { IsEquation self.old.heap equation }
-        ensures yes { IfOk result (λ fits. fits ≡ true → Solves self.old self.new equation) }
+        ensures yes { IfOk result (λ fits. fits ≡ true → Solves self.old self.new (left_of self.old.heap self.old.count equation) (right_of self.old.heap self.old.count equation) equation.new) }
         ensures no { IfOk result (λ fits. fits ≡ false → unifier_of (left_of self.old.heap self.old.count equation) (right_of self.old.heap self.old.count equation) ≡ None) }
         ensures keeps { Keeps self.old self.new }
     {
@@ -35,7 +35,7 @@ impl Environment {
     /// memory gives out, all stands for what it did.
     pub fn solve(&mut self, alloc: Global, equation: Equation) -> Result<bool, AllocError>
         requires { IsEquation self.old.heap equation }
-        ensures yes { IfOk result (λ fits. fits ≡ true → Solves self.old self.new equation) }
+        ensures yes { IfOk result (λ fits. fits ≡ true → Solves self.old self.new (left_of self.old.heap self.old.count equation) (right_of self.old.heap self.old.count equation) equation.new) }
         ensures no { IfOk result (λ fits. fits ≡ false → (unifier_of (left_of self.old.heap self.old.count equation) (right_of self.old.heap self.old.count equation) ≡ None) × Stays self.old self.new) }
         ensures err { OnErr result (Stays self.old self.new) }
     {

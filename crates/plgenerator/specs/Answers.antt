@@ -1,12 +1,13 @@
 -- The answers that are left of a call, over the values of its arguments.
-use Rattle.std.specs.Prelude.{◌≡◌, ℕ, ◌+◌, ◌<◌, ◌≤◌, List, [], ◌∷◌, map, take, drop, length, Option, Some, None, IfSome}
+use Rattle.std.specs.Prelude.{◌≡◌, ℕ, pos, ◌+◌, ◌<◌, ◌≤◌, List, [], ◌∷◌, map, take, drop, length, Option, Some, None, IfSome}
 use Rattle.std.specs.Str.{chars}
-use Rattle.plterm.specs.Tree.{Tree, atom}
+use Rattle.plterm.specs.Tree.{Tree, int, atom}
+use Rattle.plterm.specs.Reading.{IsName}
 use Rattle.plcells.specs.declared.cell.Cell.{Cell}
 use Rattle.plcells.specs.declared.equation.Equation.{Equation}
-use Rattle.plcells.specs.Store.{Store, value}
+use Rattle.plcells.specs.Store.{Store, value, AreValues}
 use Rattle.plcells.specs.Equations.{IsEquation, left_of, right_of}
-use Rattle.plbuiltin.specs.Solution.{Solution, against}
+use Rattle.plbuiltin.specs.Solution.{Solution, against, are}
 use Rattle.plbuiltin.specs.Pieces.{text_of, as_text}
 use Rattle.plgenerator.specs.declared.turn.Part.{Part}
 use Rattle.plgenerator.specs.declared.turn.Split.{Split}
@@ -14,6 +15,9 @@ use Rattle.plgenerator.specs.declared.turn.Groups.{Groups}
 use Rattle.plgenerator.specs.declared.turn.Remaining.{Remaining}
 use Rattle.plgenerator.specs.declared.turn.Remaining.TheVariants as turns
 use Rattle.plgenerator.specs.declared.generator.Found.{Found}
+use Rattle.plgenerator.specs.declared.generator.Piece.{Piece}
+use Rattle.plgenerator.specs.declared.generator.Sides.{Sides}
+use Rattle.plgenerator.specs.declared.generator.Sides.TheVariants as sides
 use Rattle.plgenerator.specs.declared.wanted.Sought.{Sought}
 use Rattle.plgenerator.specs.Fitting.{fitting}
 use Rattle.plgenerator.specs.Turns.{IsPart, IsSplit, parts_left, splits_left}
@@ -24,6 +28,20 @@ solution_of h n e = record { left = left_of h n e; right = right_of h n e; new =
 -- the terms of the arguments behind the atom
 abbrev pub sought_terms : Store → Sought → List Tree
 sought_terms h s = value h s.before ∷ value h s.length ∷ value h s.after ∷ value h s.text ∷ []
+
+-- the numbers of characters before a part, in it and behind it, and the atom of its text
+abbrev pub piece_terms : Piece → List Tree
+piece_terms p = int (pos p.part.offset.characters) ∷ int (pos p.part.length) ∷ int (pos p.part.after) ∷ atom p.text ∷ []
+
+-- the solution that two sides are
+abbrev pub told_by : Store → ℕ → Sides → Solution
+told_by h n (sides.Terms e) = solution_of h n e
+told_by h n (sides.Part s p) = are (sought_terms h s) (piece_terms p)
+
+-- their values are there, and a part's text is a name
+abbrev pub AreSides : Store → Sides → Type 0
+AreSides h (sides.Terms e) = IsEquation h e
+AreSides h (sides.Part s p) = AreValues h (s.before ∷ s.length ∷ s.after ∷ s.text ∷ []) × IsName p.text
 
 abbrev pub parts_in : Option (List ℕ) → List Tree → Part → List Solution
 parts_in None us p = []
@@ -83,7 +101,7 @@ IsRemaining h vs turn = IsRemainingOf (map (value h) vs) turn
 
 -- an answer, behind some that have no unifier, and before those that are left
 pub record Finds (h : Store) (vs : List Cell) (turn : Remaining) (f : Found) : Type 0 where
-  pub equation : IsEquation h f.equation
+  pub sides : AreSides h f.sides
   pub rest : IfSome f.rest (IsRemaining h vs)
   pub fewer : IfSome f.rest (λ rest. length (left h vs rest) < length (left h vs turn))
-  pub is : (n : ℕ) → fitting (left h vs turn) ≡ fitting (solution_of h n f.equation ∷ left_if h vs f.rest)
+  pub is : (n : ℕ) → fitting (left h vs turn) ≡ fitting (told_by h n f.sides ∷ left_if h vs f.rest)

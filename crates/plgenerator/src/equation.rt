@@ -1,6 +1,7 @@
 //! Answers as equations: what the arguments of a call are unified with.
-ghost use Rattle.std.specs.Prelude.{◌≡◌, ◌<◌, ◌≤◌, ℕ, suc, [], ◌∷◌, length, IfOk};
-ghost use Rattle.std.specs.Str.{chars};
+ghost use Rattle.std.specs.Prelude.{◌≡◌, ◌<◌, ◌≤◌, ℕ, suc, [], ◌∷◌, length, take, drop, IfOk};
+ghost use Rattle.std.specs.Str.{chars, encode_utf8_all};
+ghost use Rattle.plterm.specs.Reading.{IsName};
 ghost use Rattle.plterm.specs.Tree.{Tree, atom};
 ghost use Rattle.plterm.specs.Variables.{AllBelow};
 ghost use Rattle.plsubst.specs.Subst.{bind};
@@ -83,16 +84,26 @@ fn four(
     Ok(Term::from_prefix(nodes))
 }
 
-/// The node of an atom's text. An `Err` comes for want of memory, and where the text has more than 65,535 bytes.
-fn atom_node(alloc: Global, text: &str) -> Result<Node, AllocError>
-    ensures is { IfOk result (λ n. n ≡ Node.Atom text.now) }
-    ensures alone { IfOk result IsAlone }
+/// The name of a text. An `Err` comes for want of memory, and where the text has more than 65,535 bytes.
+fn short_name(alloc: Global, text: &str) -> Result<Name, AllocError>
+    ensures is { IfOk result (λ name. name ≡ text.now) }
+    ensures name { IfOk result IsName }
 {
     let name = Name::new(alloc, text)?;
     if name.len() > 65535 {
         return Err(AllocError);
     }
-    Ok(Node::Atom(name))
+    Ok(name)
+}
+
+/// The text of a part, as a name of its own.
+pub(crate) fn part_name(alloc: Global, text: &str, part: Part) -> Result<Name, AllocError>
+    requires { IsPart (chars text.now) part }
+    ensures is { IfOk result (λ name. name ≡ encode_utf8_all (take part.length (drop part.offset.characters (chars text.now)))) }
+    ensures name { IfOk result IsName }
+{
+    let (front, _) = divided(behind(text, part.offset), part.length);
+    short_name(alloc, front)
 }
 
 /// What the values are unified with: the numbers of characters before a part, in it and behind it, and its text.
@@ -100,11 +111,11 @@ fn part_term(alloc: Global, text: &str, part: Part) -> Result<Term, AllocError>
     requires { IsPart (chars text.now) part }
     ensures { IfOk result (λ t. t ≡ (part_of (chars text.now) [] part.offset.characters part.length part.after).right) }
 {
-    let (name, _) = divided(behind(text, part.offset), part.length);
+    let name = part_name(alloc, text, part)?;
     let before = Node::Int(part.offset.characters.into());
     let length = Node::Int(part.length.into());
     let after = Node::Int(part.after.into());
-    four(alloc, before, length, after, atom_node(alloc, name)?)
+    four(alloc, before, length, after, Node::Atom(name))
 }
 
 /// The answer that a part of an atom is: its arguments behind the atom are unified with the numbers of characters before the part, in it and

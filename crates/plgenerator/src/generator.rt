@@ -5,7 +5,7 @@ ghost use Rattle.plgenerator.specs.Fitting.{fitting};
 ghost use Rattle.plgenerator.specs.Answers.{left, IsRemaining, Finds};
 
 use crate::argument::{atom_in, text_of};
-use crate::equation::{part_equation, split_equation};
+use crate::equation::{part_name, split_equation};
 use crate::group::next_group;
 use crate::part::{first_part, part_after};
 use crate::split::first_split;
@@ -14,13 +14,30 @@ use crate::wanted::{Sought, wanted};
 use plcells::cell::Cell;
 use plcells::equation::Equation;
 use plcells::heap::Heap;
+use plterm::name::Name;
 use std::alloc::{AllocError, Global};
+
+/// A part of an atom, and its text.
+#[derive(Drop)]
+pub struct Piece {
+    pub part: Part,
+    pub text: Name,
+}
+
+/// What is to be unified in an answer.
+#[derive(Drop)]
+pub enum Sides {
+    /// The two terms of an equation; no variable is new.
+    Terms(Equation),
+    /// What is sought of a part, with the numbers of characters before it, in it and behind it, and with the atom of its text.
+    Part(Sought, Piece),
+}
 
 /// An answer, and those behind it.
 #[derive(Drop)]
 pub struct Found {
-    /// The two terms that are to be unified; no variable is new.
-    pub equation: Equation,
+    /// What is to be unified.
+    pub sides: Sides,
     /// The answers behind it, if there are any.
     pub rest: Option<Remaining>,
 }
@@ -70,9 +87,13 @@ fn next_part(
     let Some(part) = first_part(&wanted, text, part) else {
         return Ok(None);
     };
-    let equation = part_equation(alloc, sought, text, part)?;
+    let piece = Piece {
+        part,
+        text: part_name(alloc, text, part)?,
+    };
     let rest = part_turn(part_after(&wanted, text, part));
-    Ok(Some(Found { equation, rest }))
+    let sides = Sides::Part(sought, piece);
+    Ok(Some(Found { sides, rest }))
 }
 
 /// The next answer of atom_concat/3 (8.16.2), whose third argument is divided.
@@ -101,7 +122,8 @@ fn next_split(
     };
     let equation = split_equation(alloc, heap, sides, text, split)?;
     let rest = split_turn(rest);
-    Ok(Some(Found { equation, rest }))
+    let sides = Sides::Terms(equation);
+    Ok(Some(Found { sides, rest }))
 }
 
 /// The next of the answers that are left which may fit (ISO/IEC 13211-1 8.14.4, 8.16.2, 8.16.3, 8.17.2): it is to be unified, and where it has no

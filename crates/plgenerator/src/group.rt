@@ -8,7 +8,7 @@ ghost use Rattle.plgenerator.specs.Fitting.{fitting};
 ghost use Rattle.plgenerator.specs.Answers.{solution_of, left, Finds};
 
 use crate::equation::together;
-use crate::generator::Found;
+use crate::generator::{Found, Sides};
 use crate::turn::{Groups, Remaining};
 use plcells::cell::Cell;
 use plcells::equation::Equation;
@@ -71,5 +71,6 @@ pub(crate) fn next_group(
         arguments: groups.arguments,
         passed,
     }));
-    Ok(Some(Found { equation, rest }))
+    let sides = Sides::Terms(equation);
+    Ok(Some(Found { sides, rest }))
 }

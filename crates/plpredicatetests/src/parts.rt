@@ -2,6 +2,7 @@
 ghost use Rattle.std.specs.Prelude.{◌≡◌, ◌≤◌, [], length};
 ghost use Rattle.std.specs.Str.{chars};
 ghost use Rattle.plcells.specs.Store.{AreValues, IsValue};
+ghost use Rattle.plgenerator.specs.Answers.{AreSides};
 ghost use Rattle.plgenerator.specs.Turns.{IsPart, IsSplit};
 
 use crate::made::{Goal, arguments, empty, put, put_arguments, word};
@@ -10,7 +11,7 @@ use plcells::cell::Cell;
 use plcells::equation::Equation;
 use plcells::heap::Heap;
 use plgenerator::equation::{part_equation, split_equation, together};
-use plgenerator::generator::next;
+use plgenerator::generator::{Sides, next};
 use plgenerator::part::all_parts;
 use plgenerator::split::all_splits;
 use plgenerator::turn::{Groups, Part, Remaining, Split};
@@ -121,6 +122,18 @@ fn rows_of_splits(rt: HostRuntime) -> Result<(), Fail> {
     Ok(())
 }
 
+/// A goal's text once the sides of an answer are unified; `a part`, where it is a part of an atom.
+fn solved_by(heap: &mut Heap, alloc: Global, goal: &Goal, sides: &Sides) -> Result<String, Fail>
+    requires goal { IsValue heap.old goal.now.value }
+    requires spare { AreValues heap.old goal.now.spare.items }
+    requires sides { AreSides heap.old sides.now }
+{
+    match sides {
+        Sides::Terms(equation) => solved(heap, alloc, goal, equation),
+        Sides::Part(_, _) => word(alloc, "a part"),
+    }
+}
+
 /// A goal's text once its first two arguments are, together, the next group, of those that its other arguments are; `none`, where all were passed.
 fn group_on(heap: &mut Heap, alloc: Global, goal: &Goal, passed: u32) -> Result<String, Fail>
     requires goal { IsValue heap.old goal.now.value }
@@ -135,7 +148,7 @@ fn group_on(heap: &mut Heap, alloc: Global, goal: &Goal, passed: u32) -> Result<
         passed,
     });
     match next(alloc, heap, &args, turn)? {
-        Some(found) => solved(heap, alloc, goal, &found.equation),
+        Some(found) => solved_by(heap, alloc, goal, &found.sides),
         None => word(alloc, "none"),
     }
 }

@@ -14,7 +14,8 @@ use plbind::unify::{Scratch, unify};
 use plcells::cell::Cell;
 use plcells::equation::Equation;
 use plcells::heap::Heap;
-use plgenerator::generator::next;
+use plgenerator::equation::together;
+use plgenerator::generator::{Piece, Sides, next};
 use plgenerator::turn::Remaining;
 use plmade::made::{shown, text_of};
 use plops::table::OpTable;
@@ -174,6 +175,26 @@ fn of_groups(
     word(alloc, "no")
 }
 
+/// What is told of a part: the numbers of characters before it, in it and behind it, and its text.
+fn piece_term(alloc: Global, piece: &Piece) -> Result<Term, Fail> {
+    let part = piece.part;
+    let terms = vec![in alloc;
+        Term::int(alloc, part.offset.characters.into())?,
+        Term::int(alloc, part.length.into())?,
+        Term::int(alloc, part.after.into())?,
+        Term::atom(alloc, piece.text.copied()?)?,
+    ]?;
+    Ok(together(alloc, terms)?)
+}
+
+/// The text of the right side of an answer.
+fn right_text(alloc: Global, sides: &Sides) -> Result<String, Fail> {
+    match sides {
+        Sides::Terms(equation) => Ok(text_of(alloc, &equation.right)?),
+        Sides::Part(_, piece) => Ok(text_of(alloc, &piece_term(alloc, piece)?)?),
+    }
+}
+
 /// The right side of the next answer of a turn is told: the turn behind it.
 fn tell_next(
     alloc: Global,
@@ -192,7 +213,7 @@ fn tell_next(
     let Some(found) = next(alloc, heap, values, turn)? else {
         return Ok(None);
     };
-    let text = text_of(alloc, &found.equation.right)?;
+    let text = right_text(alloc, &found.sides)?;
     write!(told, "{text} ")?;
     Ok(found.rest)
 }

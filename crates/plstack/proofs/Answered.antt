@@ -8,7 +8,7 @@ use Rattle.plsearch.specs.Rows.{solved}
 use Rattle.plgenerator.specs.declared.turn.Remaining.{Remaining}
 use Rattle.plgenerator.specs.Answers.{left, IsRemaining}
 use Rattle.plgenerator.proofs.Staying.{left_stays, turn_stays}
-use Rattle.plenv.specs.Env.{Env, IsEnv, cut, renamed, IsWithin}
+use Rattle.plenv.specs.Env.{Env, IsEnv, cut, renamed, IsMark, IsWithin}
 use Rattle.plenv.specs.Changes.{Keeps, Stays}
 use Rattle.plenv.specs.Solving.{counted as wider}
 use Rattle.plenv.proofs.Keeping.{Keeps-trans}
@@ -25,11 +25,11 @@ use Rattle.plstack.specs.declared.frame.Frame.TheVariants.{Open}
 use Rattle.plstack.specs.Places.{Database, answers_left, kept_values}
 use Rattle.plstack.specs.Frames.{AreOlder, IsOpen}
 use Rattle.plstack.specs.Trials.{IsMarked}
-use Rattle.plstack.specs.State.{State, IsStack, goals_in, goals_of, place_of, cases_of, IsFit, IsList, kinds_in, Extends, Solves, Retries, CountsUp}
+use Rattle.plstack.specs.State.{State, IsStack, goals_in, goals_of, place_of, cases_of, IsFit, IsList, kinds_in, Extends, Retries, CountsUp}
 use Rattle.plstack.specs.Calls.{StaysAt}
 use Rattle.plstack.specs.Cutting.{Settles}
 use Rattle.plstack.specs.Answering.{answers_if, TakesAnswer, TakesNone, PushesAnswers, Answered, Unanswered}
-use Rattle.plstack.proofs.Growing.{extends-env, frames-grown, solved-lists, solved-stack, solves, stack-env}
+use Rattle.plstack.proofs.Growing.{extends-env, frames-grown, solved-cases, solved-lists, solved-stack, stack-env}
 use Rattle.plstack.proofs.Opened.{with_values, values-stack, values-cases, values-there, older-then, frame-there}
 use Rattle.plstack.proofs.Renaming.{answers-renamed, stays}
 use Rattle.plstack.proofs.Returning.{same-cases, back-depth}
@@ -46,19 +46,19 @@ module _ (s : State) (d : ℕ) (is : IsStack s d) (vs : List Cell) (fit : AreVal
   before-extends = extends-env s d t.before t.stays.extends t.env is
 
   bound-stack : IsStack (record s { env = e }) d
-  bound-stack = solved-stack (record s { env = t.before }) d e t.equation t.solves env before-stack
+  bound-stack = solved-stack (record s { env = t.before }) d e t.solution.left t.solution.right t.solution.new t.solves env before-stack
 
-  bound : Solves (record s { env = t.before }) (record s { env = e }) t.equation
-  bound = solves (record s { env = t.before }) d e t.equation t.solves env before-stack
+  bound-cases : (db : Database) → cases_of db (record s { env = e }) ≡ cases_of db (record s { env = t.before })
+  bound-cases = solved-cases (record s { env = t.before }) d e t.solution.left t.solution.right t.solution.new t.solves env before-stack
 
   bound-list : (l : Continuation) → IsList s l → IsList (record s { env = e }) l × (goals_of (record s { env = e }) l ≡ bind_goals t.solves.unifier (goals_of s l))
   bound-list l i =
       let b = before-extends.lists l i in
-      let r = solved-lists (record s { env = t.before }) d e t.equation t.solves env before-stack l b.0 in
+      let r = solved-lists (record s { env = t.before }) d e t.solution.left t.solution.right t.solution.new t.solves env before-stack l b.0 in
       (r.0, r.1 ∙ ap (bind_goals t.solves.unifier) b.1)
 
   pub keeps-all : Keeps s.env e
-  keeps-all = Keeps-trans s.env t.before e t.stays.extends.keeps (Keeps-trans t.before (wider t.equation.new t.before) e (extends-counted t.before t.equation.new).keeps t.solves.made.keeps)
+  keeps-all = Keeps-trans s.env t.before e t.stays.extends.keeps (Keeps-trans t.before (wider t.solution.new t.before) e (extends-counted t.before t.solution.new).keeps t.solves.made.keeps)
 
   module _ (l : Continuation) (i : IsList s l) (f : IsFit s l) where
     list-there : IsList (record s { env = e }) l
@@ -74,7 +74,7 @@ module _ (s : State) (d : ℕ) (is : IsStack s d) (vs : List Cell) (fit : AreVal
     entered-stack = visiting (record s { env = e }) d l bound-stack list-there (fits-env (kinds_in s) (goals_in s) s.env e (items_of s.links l) (items_of s.links l) refl f)
 
     entered-cases : (db : Database) → cases_of db entered ≡ cases_of db s
-    entered-cases db = same-cases db (record s { env = e }) l ∙ bound.cases db ∙ before-extends.cases db
+    entered-cases db = same-cases db (record s { env = e }) l ∙ bound-cases db ∙ before-extends.cases db
 
     entered-places : answers_left s.env vs (goals_of s l) turn ≡ place_of entered ∷ answers_if s.env vs (goals_of s l) rest
     entered-places = t.places (goals_of s l) ∙ ap (λ gs. record { goals = gs; variables = e.count } ∷ answers_if s.env vs (goals_of s l) rest) (sym list-goals)
@@ -241,6 +241,12 @@ module _ (s : State) (d : ℕ) (is : IsStack s d) (below : List Frame) (p : Poin
 
   pub turn-again : IsRemaining at.env.heap vs a.turn
   turn-again = the-resume.1
+
+  pub mark-again : IsMark p.marks.env at.env
+  mark-again = the-frame.mark
+
+  pub now-again : cut p.marks.env at.env ≡ at.env
+  now-again = now s d is below p (resumes.Answers a) popped
 
   was : (db : Database) → cases_of db s ≡ Choice (answers_left at.env vs (goals_of at p.list) a.turn) ∷ cases_of db at
   was db = was-open s d is below p (resumes.Answers a) popped db

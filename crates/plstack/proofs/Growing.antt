@@ -132,21 +132,21 @@ module _ (s : State) (d : ℕ) (e : Env) (a b : Tree) (u : UnifiesEnv s.env e a 
     goals = refl;
   }
 
--- an equation was solved: its new variables are in use, and a unifier was put in
-module _ (s : State) (d : ℕ) (e : Env) (q : Equation) (u : SolvesEnv s.env e q) (env : IsEnv e) (is : IsStack s d) where
+-- two terms were solved: their new variables are in use, and a unifier was put in
+module _ (s : State) (d : ℕ) (e : Env) (a b : Tree) (k : ℕ) (u : SolvesEnv s.env e a b k) (env : IsEnv e) (is : IsStack s d) where
   abbrev wide : Env
-  wide = counted q.new s.env
+  wide = counted k s.env
 
   wider_env : IsEnv wide
-  wider_env = env-counted s.env q.new is.0.env
+  wider_env = env-counted s.env k is.0.env
 
   at_first : IsStack (record s { env = wide }) d
-  at_first = stack-env s d wide (extends-counted s.env q.new) wider_env is
+  at_first = stack-env s d wide (extends-counted s.env k) wider_env is
 
   stays : Extends s (record s { env = wide })
-  stays = extends-env s d wide (extends-counted s.env q.new) wider_env is
+  stays = extends-env s d wide (extends-counted s.env k) wider_env is
 
-  abbrev unified : UnifiesEnv wide e (left_of s.env.heap s.env.count q) (right_of s.env.heap s.env.count q)
+  abbrev unified : UnifiesEnv wide e a b
   unified = record { unifier = u.unifier; is = u.is; made = u.made }
 
   pub solved-stack : IsStack (record s { env = e }) d
@@ -158,35 +158,45 @@ module _ (s : State) (d : ℕ) (e : Env) (q : Equation) (u : SolvesEnv s.env e q
       let t = list-unified (record s { env = wide }) d e _ _ unified env at_first l r.0 in
       (t.0, t.1 ∙ ap (bind_goals u.unifier) r.1)
 
-  pub solves : Solves s (record s { env = e }) q
-  solves = record {
+  pub solved-cases : (db : Database) → cases_of db (record s { env = e }) ≡ cases_of db s
+  solved-cases db = cases-unified (record s { env = wide }) d e _ _ unified env at_first db ∙ stays.cases db
+
+-- an equation was solved
+module _ (s : State) (d : ℕ) (e : Env) (q : Equation) (env : IsEnv e) (is : IsStack s d) where
+  abbrev a : Tree
+  a = left_of s.env.heap s.env.count q
+
+  abbrev b : Tree
+  b = right_of s.env.heap s.env.count q
+
+  solves : SolvesEnv s.env e a b q.new → Solves s (record s { env = e }) q
+  solves u = record {
     unifier = u.unifier;
     is = u.is;
-    lists = solved-lists;
-    cases = λ db. cases-unified (record s { env = wide }) d e _ _ unified env at_first db ∙ stays.cases db;
+    lists = solved-lists s d e a b q.new u env is;
+    cases = solved-cases s d e a b q.new u env is;
     frames = refl;
     count = u.made.count;
     basis = refl;
   }
 
--- whatever came of an equation
-module _ (s : State) (d : ℕ) (e : Env) (q : Equation) (env : IsEnv e) (is : IsStack s d) where
-  pub solve-stack : (r : Outcomes Bool AllocError) → IfOk r (λ fits. fits ≡ true → SolvesEnv s.env e q) →
-      IfOk r (λ fits. fits ≡ false → (unify (left_of s.env.heap s.env.count q) (right_of s.env.heap s.env.count q) ≡ None) × Stays s.env e) → OnErr r (Stays s.env e) → IsStack (record s { env = e }) d
-  solve-stack (Ok true) fits not err = solved-stack s d e q (fits refl) env is
+  -- whatever came of it
+  pub solve-stack : (r : Outcomes Bool AllocError) → IfOk r (λ fits. fits ≡ true → SolvesEnv s.env e a b q.new) →
+      IfOk r (λ fits. fits ≡ false → (unify a b ≡ None) × Stays s.env e) → OnErr r (Stays s.env e) → IsStack (record s { env = e }) d
+  solve-stack (Ok true) fits not err = solved-stack s d e a b q.new (fits refl) env is
   solve-stack (Ok false) fits not err = stack-env s d e (not refl).1.extends env is
   solve-stack (Err x) fits not err = stack-env s d e err.extends env is
 
-  pub solve-solves : (r : Outcomes Bool AllocError) → IfOk r (λ fits. fits ≡ true → SolvesEnv s.env e q) → IfOk r (λ fits. fits ≡ true → Solves s (record s { env = e }) q)
-  solve-solves (Ok answer) fits = λ so. solves s d e q (fits so) env is
+  pub solve-solves : (r : Outcomes Bool AllocError) → IfOk r (λ fits. fits ≡ true → SolvesEnv s.env e a b q.new) → IfOk r (λ fits. fits ≡ true → Solves s (record s { env = e }) q)
+  solve-solves (Ok answer) fits = λ so. solves (fits so)
   solve-solves (Err x) fits = tt
 
-  pub solve-stays : (r : Outcomes Bool AllocError) → IfOk r (λ fits. fits ≡ false → (unify (left_of s.env.heap s.env.count q) (right_of s.env.heap s.env.count q) ≡ None) × Stays s.env e) →
+  pub solve-stays : (r : Outcomes Bool AllocError) → IfOk r (λ fits. fits ≡ false → (unify a b ≡ None) × Stays s.env e) →
       IfOk r (λ fits. fits ≡ false → Extends s (record s { env = e }) × (e.count ≡ s.env.count))
   solve-stays (Ok answer) not = λ no. (extends-env s d e (not no).1.extends env is, (not no).1.count)
   solve-stays (Err x) not = tt
 
-  pub solve-none : (r : Outcomes Bool AllocError) → IfOk r (λ fits. fits ≡ false → (unify (left_of s.env.heap s.env.count q) (right_of s.env.heap s.env.count q) ≡ None) × Stays s.env e) →
+  pub solve-none : (r : Outcomes Bool AllocError) → IfOk r (λ fits. fits ≡ false → (unify a b ≡ None) × Stays s.env e) →
       IfOk r (λ fits. fits ≡ false → unify (left_of s.env.heap s.env.count q) (right_of s.env.heap s.env.count q) ≡ None)
   solve-none (Ok answer) not = λ no. (not no).0
   solve-none (Err x) not = tt

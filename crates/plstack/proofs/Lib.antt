@@ -29,6 +29,7 @@ pub mod Going
 pub mod Entering
 pub mod Opened
 pub mod Taking
+pub mod Pieces
 pub mod Answered
 pub mod Keys
 pub mod Arguments

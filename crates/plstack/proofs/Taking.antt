@@ -1,10 +1,9 @@
 -- The first of the answers that are left which fits.
-use Rattle.std.proofs.Common.{◌≡◌, ℕ, ◌+◌, ◌<◌, List, [], ◌∷◌, length, filter_map, option_map, refl, sym, ap, ◌∙◌, Option, Some, None, IfSome}
+use Rattle.std.proofs.Common.{◌≡◌, ℕ, ◌+◌, ◌<◌, List, [], ◌∷◌, length, filter_map, option_map, refl, sym, ap, ◌∙◌, subst, Option, Some, None, IfSome}
 use Rattle.std.specs.List.{cons_option}
 use Rattle.plterm.specs.Tree.{Tree}
 use Rattle.plsubst.specs.Unify.{unify}
 use Rattle.plcells.specs.declared.cell.Cell.{Cell}
-use Rattle.plcells.specs.Equations.{left_of, right_of}
 use Rattle.plcells.specs.Store.{AreValues}
 use Rattle.plbuiltin.specs.Solution.{Solution}
 use Rattle.plsearch.specs.Types.{Element}
@@ -12,16 +11,25 @@ use Rattle.plsearch.specs.Lists.{bind_goals}
 use Rattle.plsearch.specs.Rows.{solved}
 use Rattle.plgenerator.specs.declared.generator.Found.{Found}
 use Rattle.plgenerator.specs.declared.turn.Remaining.{Remaining}
-use Rattle.plgenerator.specs.Answers.{left, left_if, IsRemaining, Finds, solution_of}
+use Rattle.plgenerator.specs.Answers.{left, left_if, IsRemaining, Finds, told_by}
 use Rattle.plgenerator.specs.Fitting.{fitting, fitting_by}
 use Rattle.plgenerator.proofs.Staying.{left_stays, turn_stays, turn_stood}
-use Rattle.plenv.specs.Env.{Env, IsEnv}
-use Rattle.plenv.specs.Changes.{Stays}
-use Rattle.plenv.specs.Solving.{Solves}
-use Rattle.plenv.proofs.Putting.{Stays-refl}
+use Rattle.platoms.specs.Names.{IsTable}
+use Rattle.plcells.proofs.Renaming.{Preserves-renamed}
+use Rattle.plenv.specs.declared.slot.Mark.{Mark}
+use Rattle.plenv.specs.Env.{Env, IsEnv, IsWithin, cut, renamed}
+use Rattle.plenv.specs.Changes.{Keeps, Stays}
+use Rattle.plenv.proofs.Putting.{Stays-refl, stays-grown}
 use Rattle.plstack.specs.Places.{answers_left}
-use Rattle.plstack.specs.Answering.{answers_if, TakesAnswer, TakesNone}
+use Rattle.plstack.specs.Answering.{answers_if, IsSolved, TakesAnswer, TakesNone}
 use Rattle.plstack.proofs.Opened.{values_stay}
+
+-- what came behind a mark is taken back
+pub taken-back : (old new back : Env) (m : Mark) → IsEnv old → IsTable new.heap.names → Keeps old new → IsWithin m old → cut m old ≡ old → back ≡ cut m new → Stays old back
+taken-back old new back m is table keeps within now e =
+    let kept = Preserves-renamed old.heap new.heap.names is.heap table keeps.names in
+    let same : back ≡ renamed old new.heap.names = e ∙ keeps.kept m within ∙ ap (λ x. renamed x new.heap.names) now in
+    subst (Stays old) (sym same) (stays-grown old (renamed old new.heap.names).heap kept.values kept.keeps is.slots)
 
 -- those without a unifier give no place
 fitting-solved : (es : List Element) (n : ℕ) (ss : List Solution) → filter_map (solved es n) (fitting ss) ≡ filter_map (solved es n) ss
@@ -65,6 +73,9 @@ module _ (old : Env) (vs : List Cell) (fit : AreValues old.heap vs) (turn : Rema
     }
 
     module _ (f : Found) (finds : Finds now.heap vs next f) where
+      abbrev pub found : Solution
+      found = told_by now.heap now.count f.sides
+
       rest-if : (o : Option Remaining) (es : List Element) → filter_map (solved es old.count) (left_if now.heap vs o) ≡ answers_if old vs es o
       rest-if None es = refl
       rest-if (Some t) es = ap (filter_map (solved es old.count)) (left_stays old.heap now.heap p.stays.extends.values vs fit t)
@@ -84,24 +95,24 @@ module _ (old : Env) (vs : List Cell) (fit : AreValues old.heap vs) (turn : Rema
           go (Some t) less = rw (sym (left_stays old.heap now.heap p.stays.extends.values vs fit t), sym (left_stays old.heap now.heap p.stays.extends.values vs fit next)) less
 
       -- the one that was found, before those behind it
-      found-first : (es : List Element) → answers_left old vs es turn ≡ cons_option (solved es old.count (solution_of now.heap now.count f.equation)) (answers_if old vs es f.rest)
+      found-first : (es : List Element) → answers_left old vs es turn ≡ cons_option (solved es old.count (found)) (answers_if old vs es f.rest)
       found-first es =
           p.same es
           ∙ ap (filter_map (solved es old.count)) (sym (left_stays old.heap now.heap p.stays.extends.values vs fit next))
           ∙ sym (fitting-solved es old.count (left now.heap vs next))
           ∙ ap (filter_map (solved es old.count)) (finds.is now.count)
-          ∙ fitting-solved es old.count (solution_of now.heap now.count f.equation ∷ left_if now.heap vs f.rest)
-          ∙ ap (cons_option (solved es old.count (solution_of now.heap now.count f.equation))) (rest-if f.rest es)
+          ∙ fitting-solved es old.count (found ∷ left_if now.heap vs f.rest)
+          ∙ ap (cons_option (solved es old.count (found))) (rest-if f.rest es)
 
-      solved-by : (es : List Element) (o : Option (ℕ → Tree)) → unify (left_of now.heap now.count f.equation) (right_of now.heap now.count f.equation) ≡ o →
-          solved es old.count (solution_of now.heap now.count f.equation) ≡ option_map (λ σ. record { goals = bind_goals σ es; variables = old.count + f.equation.new }) o
-      solved-by es o e = ap (option_map (λ σ. record { goals = bind_goals σ es; variables = old.count + f.equation.new })) e
+      solved-by : (es : List Element) (o : Option (ℕ → Tree)) → unify found.left found.right ≡ o →
+          solved es old.count (found) ≡ option_map (λ σ. record { goals = bind_goals σ es; variables = old.count + found.new }) o
+      solved-by es o e = ap (option_map (λ σ. record { goals = bind_goals σ es; variables = old.count + found.new })) e
 
       -- it fits
-      pub takes : (new : Env) → IsEnv now → Solves now new f.equation → TakesAnswer old new vs turn f.rest
+      pub takes : (new : Env) → IsEnv now → IsSolved now new found → TakesAnswer old new vs turn f.rest
       takes new env u = record {
         before = now;
-        equation = f.equation;
+        solution = found;
         stays = p.stays;
         env = env;
         solves = u;
@@ -109,11 +120,11 @@ module _ (old : Env) (vs : List Cell) (fit : AreValues old.heap vs) (turn : Rema
         places = λ es.
             found-first es
             ∙ ap (λ o. cons_option o (answers_if old vs es f.rest)) (solved-by es (Some u.unifier) u.is)
-            ∙ ap (λ n. record { goals = bind_goals u.unifier es; variables = n } ∷ answers_if old vs es f.rest) (ap (λ n. n + f.equation.new) (sym p.stays.count) ∙ sym u.made.count);
+            ∙ ap (λ n. record { goals = bind_goals u.unifier es; variables = n } ∷ answers_if old vs es f.rest) (ap (λ n. n + found.new) (sym p.stays.count) ∙ sym u.made.count);
       }
 
       -- it does not fit
-      module _ (e : unify (left_of now.heap now.count f.equation) (right_of now.heap now.count f.equation) ≡ None) where
+      module _ (e : unify found.left found.right ≡ None) where
         passed-one : (es : List Element) → answers_left old vs es turn ≡ answers_if old vs es f.rest
         passed-one es = found-first es ∙ ap (λ o. cons_option o (answers_if old vs es f.rest)) (solved-by es None e)
 

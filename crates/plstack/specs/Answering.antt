@@ -1,7 +1,7 @@
 -- Calls of predicates of several answers, which are taken one at a time.
 use Rattle.std.specs.Prelude.{◌≡◌, ℕ, List, [], ◌∷◌, ◌++◌, reverse, Option, Some, None, IfSome}
 use Rattle.plcells.specs.declared.cell.Cell.{Cell}
-use Rattle.plcells.specs.declared.equation.Equation.{Equation}
+use Rattle.plbuiltin.specs.Solution.{Solution}
 use Rattle.plsearch.specs.Types.{Element, Resolvent, Choice}
 use Rattle.plsearch.specs.Lists.{bind_goals}
 use Rattle.plgenerator.specs.declared.turn.Remaining.{Remaining}
@@ -21,13 +21,17 @@ abbrev pub answers_if : Env → List Cell → List Element → Option Remaining 
 answers_if e vs rest None = []
 answers_if e vs rest (Some turn) = answers_left e vs rest turn
 
+-- the most general unifier of a solution's sides was put into each value and slot, and its new variables are in use
+abbrev pub IsSolved : Env → Env → Solution → Type 0
+IsSolved old new s = Solves old new s.left s.right s.new
+
 -- the first answer that is left and fits: what was put for variables is in each value and slot, and it is before the answers behind it
 pub record TakesAnswer (old new : Env) (vs : List Cell) (turn : Remaining) (rest : Option Remaining) : Type 0 where
   pub before : Env
-  pub equation : Equation
+  pub solution : Solution
   pub stays : Stays old before
   pub env : IsEnv before
-  pub solves : Solves before new equation
+  pub solves : IsSolved before new solution
   pub turns : IfSome rest (IsRemaining old.heap vs)
   pub places : (es : List Element) → answers_left old vs es turn ≡ record { goals = bind_goals solves.unifier es; variables = new.count } ∷ answers_if old vs es rest
 

@@ -1,15 +1,20 @@
 //! Calls of predicates of several answers, which are taken one at a time: no list of them is made.
 ghost use Rattle.std.specs.Prelude.{◌≡◌, ◌<◌, ◌^◌, [], ◌∷◌, length, true, false, None, IfOk, IfSome, IfNone, IsSome, OnErr, vec_capacity, vec_len};
+ghost use Rattle.plterm.specs.Reading.{IsName};
+ghost use Rattle.plsubst.specs.Unify.{unify};
 ghost use Rattle.plcells.specs.Store.{AreValues};
+ghost use Rattle.plbuiltin.specs.Solution.{together};
 ghost use Rattle.plsearch.specs.Types.{Choice};
-ghost use Rattle.plgenerator.specs.Answers.{IsRemaining};
-ghost use Rattle.plenv.specs.Changes.{Stays};
-ghost use Rattle.plenv.specs.Env.{IsEnv};
+ghost use Rattle.plgenerator.specs.Answers.{piece_terms, sought_terms, told_by, AreSides, IsRemaining};
+ghost use Rattle.plgenerator.specs.Fitting.{Misses};
+ghost use Rattle.plenv.specs.Changes.{Keeps, Stays};
+ghost use Rattle.plenv.specs.Env.{cut, IsEnv, IsMark};
+ghost use Rattle.plenv.specs.Solving.{Solves};
 ghost use Rattle.plstack.specs.Places.{Database};
 ghost use Rattle.plstack.specs.State.{cases_of, walks_in, HasAnswers, IsFit, IsList, Retries};
 ghost use Rattle.plstack.specs.Calls.{StaysAt};
 ghost use Rattle.plstack.specs.Trials.{IsMarked, IsOpened};
-ghost use Rattle.plstack.specs.Answering.{Answered, PushesAnswers, TakesAnswer, TakesNone, Unanswered};
+ghost use Rattle.plstack.specs.Answering.{Answered, IsSolved, PushesAnswers, TakesAnswer, TakesNone, Unanswered};
 
 use crate::call::keep_values;
 use crate::frame::{Answers, Frame, Point, Resume};
@@ -17,9 +22,13 @@ use crate::open::{count_up, deeper, push_within};
 use crate::stack::Stack;
 use crate::walk::Opened;
 use plcells::cell::Cell;
+use plcode::node::Node;
 use plenv::env::Environment;
-use plgenerator::generator::next;
+use plenv::slot::{Mark, Row};
+use plgenerator::generator::{Piece, Sides, next};
 use plgenerator::turn::Remaining;
+use plgenerator::wanted::Sought;
+use plhead::head::{Head, Matcher};
 use pllinks::link::Continuation;
 use pllinks::list::ListId;
 use std::alloc::{AllocError, Global};
@@ -30,29 +39,89 @@ pub struct Taken {
     pub rest: Option<Remaining>,
 }
 
-/// The first of the answers that are left over some values which fits: its two sides are unified. Where there is none, or memory gives out,
-/// all stands for what it did.
+/// A call of a predicate of several answers: the values of its arguments, those of its answers that are left, and the mark of the environment at the
+/// call.
+#[derive(Clone, Copy)]
+struct AnswerCall<'a> {
+    values: &'a [Cell],
+    turn: Remaining,
+    mark: Mark,
+}
+
+/// Unifies what is sought of a part with its numbers and its text, in a choice: whether they have a unifier. They are met as the arguments of a
+/// head are, so nothing is put.
+fn fit_piece(
+    env: &mut Environment,
+    matcher: &mut Matcher,
+    sought: &Sought,
+    piece: &Piece,
+) -> Result<bool, AllocError>
+    requires values { AreValues env.old.heap (sought.now.before ∷ sought.now.length ∷ sought.now.after ∷ sought.now.text ∷ []) }
+    requires text { IsName piece.now.text }
+    ensures yes { IfOk result (λ fits. fits ≡ true → Solves env.old env.new (together (sought_terms env.old.heap sought.now)) (together (piece_terms piece.now)) 0) }
+    ensures no { IfOk result (λ fits. fits ≡ false → unify (together (sought_terms env.old.heap sought.now)) (together (piece_terms piece.now)) ≡ None) }
+    ensures keeps { Keeps env.old env.new }
+{
+    let text = env.atom(&piece.text)?;
+    let _ = env.heap();
+    let part = piece.part;
+    let nodes = [
+        Node::Int(i64::from(part.offset.characters)),
+        Node::Int(i64::from(part.length)),
+        Node::Int(i64::from(part.after)),
+        Node::Atom(text),
+    ];
+    let values = [sought.before, sought.length, sought.after, sought.text];
+    let row = Row { at: 0, count: 4 };
+    matcher.fit(env, &nodes, Head { row, base: 0 }, &values)
+}
+
+/// Unifies the sides of an answer, in a choice: whether they have a unifier. Where they have none, or memory gives out, an undo to a mark in use
+/// gives back what was changed.
+fn solve_sides(
+    env: &mut Environment,
+    matcher: &mut Matcher,
+    alloc: Global,
+    sides: Sides,
+) -> Result<bool, AllocError>
+    requires { AreSides env.old.heap sides }
+    ensures yes { IfOk result (λ fits. fits ≡ true → IsSolved env.old env.new (told_by env.old.heap env.old.count sides)) }
+    ensures no { IfOk result (λ fits. fits ≡ false → Misses (told_by env.old.heap env.old.count sides)) }
+    ensures keeps { Keeps env.old env.new }
+{
+    match sides {
+        Sides::Terms(equation) => env.solve_in_choice(alloc, equation),
+        Sides::Part(sought, piece) => fit_piece(env, matcher, &sought, &piece),
+    }
+}
+
+/// The first of the answers of a call that are left which fits: its two sides are unified. Where there is none all stands for what it did; where
+/// memory gives out, an undo to the call's mark gives back what was changed.
 fn first_answer(
     env: &mut Environment,
+    matcher: &mut Matcher,
     alloc: Global,
-    values: &[Cell],
-    turn: Remaining,
+    call: &AnswerCall<'_>,
 ) -> Result<Option<Taken>, AllocError>
-    requires values { AreValues env.old.heap values.now }
-    requires turn { IsRemaining env.old.heap values.now turn }
-    ensures some { IfOk result (λ o. IfSome o (λ taken. TakesAnswer env.old env.new values.now turn taken.rest)) }
-    ensures none { IfOk result (λ o. IfNone o (TakesNone env.old env.new values.now turn)) }
-    ensures err { OnErr result (Stays env.old env.new) }
+    requires values { AreValues env.old.heap call.now.values.now }
+    requires turn { IsRemaining env.old.heap call.now.values.now call.now.turn }
+    requires mark { IsMark call.now.mark env.old }
+    requires now { cut call.now.mark env.old ≡ env.old }
+    ensures some { IfOk result (λ o. IfSome o (λ taken. TakesAnswer env.old env.new call.now.values.now call.now.turn taken.rest)) }
+    ensures none { IfOk result (λ o. IfNone o (TakesNone env.old env.new call.now.values.now call.now.turn)) }
+    ensures keeps { Keeps env.old env.new }
 {
-    let mut left = turn;
+    let mut left = call.turn;
     let _ = env.heap();
     'answers: loop {
-        let Some(found) = next(alloc, env.heap(), values, left)? else {
+        let Some(found) = next(alloc, env.heap(), call.values, left)? else {
             return Ok(None);
         };
-        if env.solve(alloc, found.equation)? {
+        if solve_sides(env, matcher, alloc, found.sides)? {
             return Ok(Some(Taken { rest: found.rest }));
         }
+        let _ = env.heap();
+        env.undo(call.mark);
         let Some(rest) = found.rest else {
             return Ok(None);
         };
@@ -60,23 +129,35 @@ fn first_answer(
     }
 }
 
-/// The same, in an environment that is sound whatever comes of it.
+/// The same, in an environment that is sound whatever comes of it. After an `Err` all stands for what it did.
 fn take_answer(
     env: &mut Environment,
+    matcher: &mut Matcher,
     alloc: Global,
-    values: &[Cell],
-    turn: Remaining,
+    call: &AnswerCall<'_>,
 ) -> Result<Option<Taken>, AllocError>
-    requires values { AreValues env.old.heap values.now }
-    requires turn { IsRemaining env.old.heap values.now turn }
-    ensures some { IfOk result (λ o. IfSome o (λ taken. TakesAnswer env.old env.new values.now turn taken.rest)) }
-    ensures none { IfOk result (λ o. IfNone o (TakesNone env.old env.new values.now turn)) }
+    requires values { AreValues env.old.heap call.now.values.now }
+    requires turn { IsRemaining env.old.heap call.now.values.now call.now.turn }
+    requires mark { IsMark call.now.mark env.old }
+    requires now { cut call.now.mark env.old ≡ env.old }
+    ensures some { IfOk result (λ o. IfSome o (λ taken. TakesAnswer env.old env.new call.now.values.now call.now.turn taken.rest)) }
+    ensures none { IfOk result (λ o. IfNone o (TakesNone env.old env.new call.now.values.now call.now.turn)) }
     ensures err { OnErr result (Stays env.old env.new) }
     ensures env { IsEnv env.new }
 {
-    let taken = first_answer(env, alloc, values, turn);
     let _ = env.heap();
-    taken
+    match first_answer(env, matcher, alloc, call) {
+        Ok(taken) => {
+            let _ = env.heap();
+            Ok(taken)
+        }
+        Err(e) => {
+            let _ = env.heap();
+            env.undo(call.mark);
+            let _ = env.heap();
+            Err(e)
+        }
+    }
 }
 
 /// Opens the case of the answers of a turn that are left, or a choice with nothing left: whether nothing is.
@@ -154,13 +235,18 @@ impl Stack {
         let depth = deeper(self.depth, 1)?;
         self.frames.reserve(1)?;
         self.saved.reserve(values.len())?;
-        let Some(taken) = take_answer(&mut self.env, alloc, values, turn)? else {
+        let marks = point.marks;
+        let call = AnswerCall {
+            values,
+            turn,
+            mark: marks.env,
+        };
+        let Some(taken) = take_answer(&mut self.env, &mut self.matcher, alloc, &call)? else {
             return Ok(None);
         };
         keep_values(&mut self.saved, values);
         let count = values.len() as u32;
         self.goals = point.list;
-        let marks = point.marks;
         let is_last = push_answers(&mut self.frames, point, count, taken.rest);
         self.depth = depth;
         Ok(Some(Opened { marks, is_last }))
@@ -204,8 +290,12 @@ impl Stack {
             .truncate(point.marks.saved + answers.count as usize);
         self.goals = Continuation::alone(ListId::EMPTY);
         let first = point.marks.saved;
-        let values = &self.saved[first..first + answers.count as usize];
-        match take_answer(&mut self.env, alloc, values, answers.turn) {
+        let call = AnswerCall {
+            values: &self.saved[first..first + answers.count as usize],
+            turn: answers.turn,
+            mark: point.marks.env,
+        };
+        match take_answer(&mut self.env, &mut self.matcher, alloc, &call) {
             Ok(Some(taken)) => {
                 self.goals = point.list;
                 let marks = point.marks;

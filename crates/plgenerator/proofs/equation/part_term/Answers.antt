@@ -1,33 +1,22 @@
-use Rattle.std.proofs.Common.{◌≡◌, ℤ, pos, [], ◌∷◌, length, take, drop, ap, ◌∙◌, arith, rules, w64, FitsSigned}
+use Rattle.std.proofs.Common.{◌≡◌, ℤ, pos, [], ◌∷◌, take, drop, ap, ◌∙◌, rules, w64, FitsSigned}
 use Rattle.std.proofs.lemmas.Int.{to_z-of_z}
 use Rattle.std.specs.Str.{chars}
-use Rattle.std.proofs.lemmas.List.{length-drop}
 use Rattle.std.proofs.lemmas.Result.{IfOk-weaker}
 use Rattle.plterm.specs.Tree.{int, atom}
 use Rattle.plbuiltin.specs.Solution.{together}
 use Rattle.plbuiltin.specs.Pieces.{atom_spelled}
-use Rattle.plgenerator.proofs.Offsets.{chars-behind}
-use Rattle.plgenerator.specs.Alone.{alone}
 use Rattle.plgenerator.proofs.Equations.{told}
 use Rattle.plgenerator.proofs.equation.part_term.Goals as goal
-
-pub divided-requires : goal.divided-requires
-divided-requires c =
-    let text = c.args.text.now in
-    let k = c.args.part.offset.characters in
-    let behind : length (chars c.behind.result.now) ≡ length (drop k (chars text)) = ap (λ s. length (chars s)) c.behind.ensures ∙ ap length (chars-behind text k c.utf8.text) in
-    omega (arith, behind, length-drop k (chars text), c.requires.all)
 
 pub returns : goal.returns
 returns c =
     let text = c.args.text.now in
     let p = c.args.part in
     let k = p.offset.characters in
-    let behind : chars c.behind.result.now ≡ drop k (chars text) = ap chars c.behind.ensures ∙ chars-behind text k c.utf8.text in
-    let name : alone c.in_ok-atom_node.field-0 ≡ atom_spelled (take p.length (drop k (chars text))) = ap alone c.in_ok-atom_node.ensures.is ∙ ap atom c.divided.ensures.front ∙ ap (λ cs. atom_spelled (take p.length cs)) behind in
+    let name : atom c.in_ok-name.name ≡ atom_spelled (take p.length (drop k (chars text))) = ap atom c.in_ok-name.ensures.is in
     let x : FitsSigned w64 c.into.result = search rules in
     let y : FitsSigned w64 c.into-2.result = search rules in
     let z : FitsSigned w64 c.into-3.result = search rules in
-    let ints : (x y z : ℤ) → x ≡ pos k → y ≡ pos p.length → z ≡ pos p.after → together (int x ∷ int y ∷ int z ∷ alone c.in_ok-atom_node.field-0 ∷ []) ≡ told (chars text) k p.length p.after =
+    let ints : (x y z : ℤ) → x ≡ pos k → y ≡ pos p.length → z ≡ pos p.after → together (int x ∷ int y ∷ int z ∷ atom c.in_ok-name.name ∷ []) ≡ told (chars text) k p.length p.after =
     λ x y z e f g. cc (e, f, g, name) in
     IfOk-weaker c.four.result _ (λ t. t ≡ told (chars text) k p.length p.after) (λ t is. is ∙ ints _ _ _ (to_z-of_z w64 c.into.result x ∙ c.into.ensures) (to_z-of_z w64 c.into-2.result y ∙ c.into-2.ensures) (to_z-of_z w64 c.into-3.result z ∙ c.into-3.ensures)) c.four.ensures

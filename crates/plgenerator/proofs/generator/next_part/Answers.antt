@@ -1,7 +1,8 @@
-use Rattle.std.proofs.Common.{◌≡◌, ◌<◌, [], ◌∷◌, length, sym, ap, ap₂, ◌∙◌, subst}
+use Rattle.std.proofs.Common.{◌≡◌, ◌<◌, pos, [], ◌∷◌, length, sym, ap, ap₂, ◌∙◌, subst}
 use Rattle.std.specs.Prelude.{IfSome}
-use Rattle.plterm.specs.Tree.{atom}
+use Rattle.plterm.specs.Tree.{int, atom}
 use Rattle.plcells.specs.Store.{value}
+use Rattle.plbuiltin.specs.Solution.{are}
 use Rattle.plgenerator.specs.declared.turn.Remaining.TheVariants as turns
 use Rattle.plgenerator.specs.Fitting.{fitting}
 use Rattle.plgenerator.specs.Answers.{sought_terms, left, left_if, IsRemaining}
@@ -23,7 +24,7 @@ returns-clause-some c =
     let o = c.part_after.result in
     let turn = c.part_turn-rest.ensures in
     record {
-      equation = c.in_ok-equation.ensures.there h c.requires.before c.requires.length c.requires.after c.requires.text;
+      sides = ((c.requires.before, (c.requires.length, (c.requires.after, (c.requires.text, tt)))), c.in_ok-part_name.ensures.name);
       rest = subst (λ r. IfSome r (IsRemaining h vs)) (sym turn) (turns-behind h a s.before s.length s.after s.text text is o c.part_after.ensures.part);
       fewer = subst (λ r. IfSome r (λ rest. length (left h vs rest) < length (left h vs (turns.Part p)))) (sym turn)
           (parts-fewer h a s.before s.length s.after s.text text is p q o (c.in-Some-first_part.ensures.left us) (c.part_after.ensures.fewer us));
@@ -31,5 +32,5 @@ returns-clause-some c =
           ap fitting (parts-left h a s.before s.length s.after s.text text is p)
           ∙ c.in-Some-first_part.ensures.some us w
           ∙ c.part_after.ensures.is us w
-          ∙ ap₂ (λ x xs. fitting (x ∷ xs)) (sym (c.in_ok-equation.ensures.is h n)) (sym (ap (left_if h vs) turn ∙ parts-behind h a s.before s.length s.after s.text text is o));
+          ∙ ap₂ (λ x xs. fitting (x ∷ xs)) (ap (λ s. are us (int (pos q.offset.characters) ∷ int (pos q.length) ∷ int (pos q.after) ∷ atom s ∷ [])) (sym c.in_ok-part_name.ensures.is)) (sym (ap (left_if h vs) turn ∙ parts-behind h a s.before s.length s.after s.text text is o));
     }

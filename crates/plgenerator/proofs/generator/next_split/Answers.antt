@@ -24,7 +24,7 @@ returns-clause-some c =
     let o = c.in-Some-first_split.rest in
     let turn = c.split_turn-rest.ensures in
     record {
-      equation = c.in_ok-equation.ensures.there;
+      sides = c.in_ok-equation.ensures.there;
       rest = subst (λ r. IfSome r (IsRemaining h vs)) (sym turn) (splits-turn h a b whole text is o found.rest);
       fewer = subst (λ r. IfSome r (λ rest. length (left h vs rest) < length (left h vs (turns.Split split)))) (sym turn)
           (splits-fewer h a b whole text is split o (found.fewer (u ∷ w ∷ [])));

@@ -21,7 +21,7 @@ returns-clause-some c = λ h all.
     let more : c.in-Some.passed ≡ g.passed + 1 = search rules in
     let first = next-left h vs g k v c.if-place-values.false refl more (sym read) in
     record {
-      equation = c.in_ok-equation.ensures.there h (first-values h g.arguments vs all) (value-in h vs place (Free 0) v all lt read);
+      sides = c.in_ok-equation.ensures.there h (first-values h g.arguments vs all) (value-in h vs place (Free 0) v all lt read);
       rest = next-groups h vs g k c.if-place-values.false refl more c.requires.some c.requires.few;
       fewer = omega (arith, ap length first);
       is = λ n. ap fitting first ∙ ap (λ s. fitting (s ∷ left h vs (turns.Groups k))) (sym (c.in_ok-equation.ensures.is h n));

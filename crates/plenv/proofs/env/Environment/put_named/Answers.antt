@@ -12,7 +12,7 @@ pub invariant_of-self : goal.invariant_of-self
 invariant_of-self c =
     let s = c.self.inside in
     let e : Env = record { heap = s.heap; slots = s.slots.items; noted = s.noted.items; boundary = s.boundary; count = s.count } in
-    slots-given e c.compound_on.new.heap (compound c.args.name.now (trees (map (value s.heap) c.args.values.now))) c.self.invariant c.compound_on.ensures.preserves c.compound_on.result c.compound_on.ensures.ok c.compound_on.ensures.err
+    slots-given e c.compound_on.new.heap (compound c.args.name.now (trees (map (value s.heap) c.args.values.now))) c.self.invariant c.compound_on.ensures.preserves (λ v. v) c.compound_on.result c.compound_on.ensures.ok c.compound_on.ensures.err
 
 pub returns-clause-ok : goal.returns-clause-ok
 returns-clause-ok c = rw (← c.self.view_is) (

@@ -12,7 +12,7 @@ pub invariant_of-self : goal.invariant_of-self
 invariant_of-self c =
     let s = c.self.inside in
     let e : Env = record { heap = s.heap; slots = s.slots.items; noted = s.noted.items; boundary = s.boundary; count = s.count } in
-    slots-given e c.put_nodes.new.self (bind (standing s.heap c.args.values.now) (tree_of (reverse c.args.nodes.now))) c.self.invariant c.put_nodes.ensures.preserves c.put_nodes.result c.put_nodes.ensures.ok c.put_nodes.ensures.err
+    slots-given e c.put_nodes.new.self (bind (standing s.heap c.args.values.now) (tree_of (reverse c.args.nodes.now))) c.self.invariant c.put_nodes.ensures.preserves (λ v. v) c.put_nodes.result c.put_nodes.ensures.ok c.put_nodes.ensures.err
 
 pub returns-clause-ok : goal.returns-clause-ok
 returns-clause-ok c = rw (← c.self.view_is) (

@@ -10,7 +10,7 @@ pub invariant_of-self : goal.invariant_of-self
 invariant_of-self c =
     let s = c.self.inside in
     let e : Env = record { heap = s.heap; slots = s.slots.items; noted = s.noted.items; boundary = s.boundary; count = s.count } in
-    slots-given e c.put.new.self (bind (standing s.heap c.args.values.now) c.args.term.now) c.self.invariant c.put.ensures.preserves c.put.result c.put.ensures.ok c.put.ensures.err
+    slots-given e c.put.new.self (bind (standing s.heap c.args.values.now) c.args.term.now) c.self.invariant c.put.ensures.preserves (λ v. v) c.put.result c.put.ensures.ok c.put.ensures.err
 
 pub returns-clause-ok : goal.returns-clause-ok
 returns-clause-ok c = rw (← c.self.view_is) (

@@ -45,8 +45,8 @@ returns-in-Ok-true-clause-yes c so =
     let is : IsEnv e = rw (← c.self.view_is) (record { heap = c.boundary-cells.ensures.heap; slots = c.self.invariant }) in
     let cells : c.boundary-cells.result ≡ e.heap.boundary = rw (← c.self.view_is) c.boundary-cells.ensures.is in
     let slots : c.self.inside.boundary ≡ e.boundary = rw (← c.self.view_is) refl in
-    let marked = subst (λ (x : Env). Solves x new q) m.same (c.in-Ok-true.ensures.yes c.in-Ok-true.field-0-test) in
-    subst (λ (x : Env). Solves e x q) (sym (c.forget.ensures ∙ ap₂ (λ i j. bounded i j new) cells slots))
+    let marked = subst (λ (x : Env). Solves x new (left_of x.heap x.count q) (right_of x.heap x.count q) q.new) m.same (c.in-Ok-true.ensures.yes c.in-Ok-true.field-0-test) in
+    subst (λ (x : Env). Solves e x (left_of e.heap e.count q) (right_of e.heap e.count q) q.new) (sym (c.forget.ensures ∙ ap₂ (λ i j. bounded i j new) cells slots))
     (solves-under e new (length e.heap.cells) (length e.slots) is.heap.bounded is.slots.bounded q c.requires is c.heap.ensures.env marked)
 
 pub returns-in-Ok-false-clause-no : goal.returns-in-Ok-false-clause-no
