@@ -1,6 +1,7 @@
 -- A part's numbers and its text, met as the arguments of a head.
-use Rattle.std.proofs.Common.{◌≡◌, ℕ, suc, ◌<◌, ◌+◌, ◌≤◌, ℤ, pos, codes, List, [], ◌∷◌, length, map, refl, sym, ap, ap₂, ◌∙◌, subst, arith, Some, None}
-use Rattle.plterm.specs.Tree.{Tree, int, atom, compound, trees}
+use Rattle.std.proofs.Common.{◌≡◌, ℕ, zero, suc, ◌<◌, ℤ, pos, codes, List, [], ◌∷◌, length, map, refl, sym, ap, ap₂, ◌∙◌, subst, arith, None, w64, to_z, of_z, FitsSigned}
+use Rattle.std.proofs.lemmas.Int.{to_z-of_z}
+use Rattle.plterm.specs.Tree.{int, atom, compound, trees}
 use Rattle.plsubst.specs.Subst.{bind}
 use Rattle.plsubst.specs.Unify.{unify}
 use Rattle.platoms.specs.Names.{Table, atom_at}
@@ -12,9 +13,9 @@ use Rattle.plgenerator.specs.declared.generator.Piece.{Piece}
 use Rattle.plgenerator.specs.declared.wanted.Sought.{Sought}
 use Rattle.plgenerator.specs.Answers.{piece_terms, sought_terms}
 use Rattle.plcode.specs.declared.node.Node.{Node}
-use Rattle.plcode.specs.declared.node.Node.TheVariants.{Int, Atom, Sub}
+use Rattle.plcode.specs.declared.node.Node.TheVariants.{Int, Atom}
 use Rattle.plcode.specs.Nodes.{row, values}
-use Rattle.plcode.specs.Packed.{node_at, ArePacked, IsArgument, Packed}
+use Rattle.plcode.specs.Packed.{node_at, ArePacked, IsArgument}
 use Rattle.plcode.specs.Laying.{IsLaid}
 use Rattle.plenv.specs.Env.{Env, IsEnv, over}
 use Rattle.plenv.specs.Changes.{Puts}
@@ -24,6 +25,10 @@ use Rattle.plenv.proofs.Keeping.{Keeps-trans}
 use Rattle.plenv.proofs.Solving.{keeps-counted}
 use Rattle.plhead.specs.Fitting.{NotUnifiable, UnifiesAll}
 
+-- a number as a node holds it
+pub number-is : (r : ℤ) (n : ℕ) → FitsSigned w64 r → r ≡ pos n → to_z w64 (of_z w64 r) ≡ pos n
+number-is r n fits is = to_z-of_z w64 r fits ∙ is
+
 -- the nodes
 abbrev pub piece_nodes : Piece → ℕ → List Node
 piece_nodes p a = Int (pos p.part.offset.characters) ∷ Int (pos p.part.length) ∷ Int (pos p.part.after) ∷ Atom a ∷ []
@@ -32,18 +37,18 @@ abbrev pub sought_values : Sought → List Cell
 sought_values s = s.before ∷ s.length ∷ s.after ∷ s.text ∷ []
 
 packed : (p : Piece) (a : ℕ) → ArePacked (piece_nodes p a)
-packed p a 0 from root lt e = absurd (cc)
-packed p a 1 from root lt e = absurd (cc)
-packed p a 2 from root lt e = absurd (cc)
-packed p a 3 from root lt e = absurd (cc)
+packed p a zero from root lt e = absurd (cc)
+packed p a (suc zero) from root lt e = absurd (cc)
+packed p a (suc (suc zero)) from root lt e = absurd (cc)
+packed p a (suc (suc (suc zero))) from root lt e = absurd (cc)
 packed p a (suc (suc (suc (suc i)))) from root lt e = absurd (omega (arith, lt))
 
 -- none of them is a block's or a compound's
 pub piece-whole : (p : Piece) (a j : ℕ) → j < 4 → IsArgument 0 j (node_at (piece_nodes p a) j)
-piece-whole p a 0 lt = tt
-piece-whole p a 1 lt = tt
-piece-whole p a 2 lt = tt
-piece-whole p a 3 lt = tt
+piece-whole p a zero lt = tt
+piece-whole p a (suc zero) lt = tt
+piece-whole p a (suc (suc zero)) lt = tt
+piece-whole p a (suc (suc (suc zero))) lt = tt
 piece-whole p a (suc (suc (suc (suc j)))) lt = absurd (omega (arith, lt))
 
 row-is : (t : Table) (p : Piece) (a : ℕ) → row t (piece_nodes p a) 0 4 ≡ int (pos p.part.offset.characters) ∷ int (pos p.part.length) ∷ int (pos p.part.after) ∷ atom (atom_at t a) ∷ []

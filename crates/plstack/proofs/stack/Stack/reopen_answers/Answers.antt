@@ -8,7 +8,7 @@ use Rattle.plstack.specs.State.{State}
 use Rattle.plstack.proofs.Stacks.{inside}
 use Rattle.plstack.proofs.Finding.{run-kept}
 use Rattle.plstack.proofs.Rewinding.{kept-then}
-use Rattle.plstack.proofs.Answered.{values-again, turn-again, again-stack, again-retries, again-within, again-older, closed-stack, closed-cases, back-again, back-again-cases}
+use Rattle.plstack.proofs.Answered.{values-again, turn-again, mark-again, now-again, again-stack, again-retries, again-within, again-older, closed-stack, closed-cases, back-again, back-again-cases}
 use Rattle.plstack.specs.Places.{walks_of}
 use Rattle.plstack.proofs.Ending.{answer-walks, pushed-walks}
 use Rattle.plstack.proofs.stack.Stack.reopen_answers.Goals as goal
@@ -30,6 +30,22 @@ take_answer-requires-clause-turn c =
     let popped : s.frames ≡ c.pop.new.self.items ++ Open p (resumes.Answers k) ∷ [] = c.in-Some-Open-default-Answers.ensures.items ∙ ap (λ f. c.pop.new.self.items ++ f ∷ []) (c.in-Some-Open-default-Answers.field-0-is ∙ ap (Open p) c.in-Some-Open-default-Answers.field-0-1-is) in
     let kept = ap (λ (xs : List Cell). take (p.marks.saved + k.count - p.marks.saved) (drop p.marks.saved xs)) (c.deref.ensures.value ∙ c.truncate-2.ensures.items) ∙ run-kept p.marks.saved k.count (take (p.marks.saved + k.count) s.saved) ∙ kept-then s c.self.inside.depth c.self.invariant c.pop.new.self.items p (resumes.Answers k) popped in
     rw (c.undo.ensures, kept) (turn-again s c.self.inside.depth c.self.invariant c.pop.new.self.items p k popped)
+
+pub take_answer-requires-clause-mark : goal.take_answer-requires-clause-mark
+take_answer-requires-clause-mark c =
+    let s : State = inside c.self.inside in
+    let p : Point = c.in-Some-Open-default-Answers.point in
+    let k : Answers = c.in-Some-Open-default-Answers.answers in
+    let popped : s.frames ≡ c.pop.new.self.items ++ Open p (resumes.Answers k) ∷ [] = c.in-Some-Open-default-Answers.ensures.items ∙ ap (λ f. c.pop.new.self.items ++ f ∷ []) (c.in-Some-Open-default-Answers.field-0-is ∙ ap (Open p) c.in-Some-Open-default-Answers.field-0-1-is) in
+    rw c.undo.ensures (mark-again s c.self.inside.depth c.self.invariant c.pop.new.self.items p k popped)
+
+pub take_answer-requires-clause-now : goal.take_answer-requires-clause-now
+take_answer-requires-clause-now c =
+    let s : State = inside c.self.inside in
+    let p : Point = c.in-Some-Open-default-Answers.point in
+    let k : Answers = c.in-Some-Open-default-Answers.answers in
+    let popped : s.frames ≡ c.pop.new.self.items ++ Open p (resumes.Answers k) ∷ [] = c.in-Some-Open-default-Answers.ensures.items ∙ ap (λ f. c.pop.new.self.items ++ f ∷ []) (c.in-Some-Open-default-Answers.field-0-is ∙ ap (Open p) c.in-Some-Open-default-Answers.field-0-1-is) in
+    rw c.undo.ensures (now-again s c.self.inside.depth c.self.invariant c.pop.new.self.items p k popped)
 
 pub invariant_of-self : goal.invariant_of-self
 invariant_of-self c =
