@@ -4,11 +4,10 @@ ghost use Rattle.plterm.specs.Variables.{AllBelow};
 ghost use Rattle.plbind.specs.Unifying.{KeepsAll};
 ghost use Rattle.plcells.specs.Store.{AreValues, IsFresh, IsValue};
 
-use platoms::names::Names;
+use crate::rows::{Row, show};
 use plbind::unify::{Scratch, unify_in_choice};
 use plcells::cell::Cell;
 use plcells::heap::Heap;
-use plmade::made::{shown, two_variables};
 use plterm::term::Term;
 use std::alloc::{AllocError, Global};
 use std::string::String;
@@ -42,67 +41,64 @@ fn put(alloc: Global, heap: &mut Heap, term: &Term) -> Result<Cell, AllocError>
     heap.put(alloc, term, &values)
 }
 
+/// Whether two values are unified.
+fn is_unified(alloc: Global, heap: &mut Heap, left: Cell, right: Cell) -> Result<bool, AllocError>
+    requires left { IsValue heap.old left }
+    requires right { IsValue heap.old right }
+    ensures { KeepsAll heap.old heap.new }
+{
+    let mut scratch = Scratch::new(alloc);
+    unify_in_choice(heap, &mut scratch, left, right)
+}
+
 /// The text of a goal once its sides are unified; `no`, where they have no unifier.
-fn unified(alloc: Global, heap: &mut Heap, goal: &Cell) -> Result<String, Fail>
+fn unified(alloc: Global, heap: &mut Heap, goal: &Cell, told: &mut String) -> Result<(), Fail>
     requires { IsValue heap.old goal.now }
     ensures { OnOk result (KeepsAll heap.old heap.new) }
 {
     let Some((left, right)) = sides(heap, goal) else {
         return Err("no two sides".into());
     };
-    let mut scratch = Scratch::new(alloc);
-    if unify_in_choice(heap, &mut scratch, left, right)? {
-        Ok(shown(alloc, heap, *goal)?)
+    if is_unified(alloc, heap, left, right)? {
+        show(alloc, heap, *goal, told)
     } else {
-        Ok("no".to_string(alloc)?)
+        Ok(told.push_str("no")?)
     }
 }
 
 /// The text of a goal once its sides are unified behind a mark, and once that is taken off.
-fn undone(alloc: Global, heap: &mut Heap, goal: &Cell) -> Result<String, Fail>
+fn undone(alloc: Global, heap: &mut Heap, goal: &Cell, told: &mut String) -> Result<(), Fail>
     requires { IsValue heap.old goal.now }
 {
     let boundary = heap.boundary();
     let mark = heap.mark();
-    let during = unified(alloc, heap, goal)?;
+    unified(alloc, heap, goal, told)?;
     heap.cut_back(mark, boundary);
-    let after = shown(alloc, heap, *goal)?;
-    Ok(format!(in alloc; "{during} and {after}")?)
+    told.push_str(" and ")?;
+    show(alloc, heap, *goal, told)
 }
 
 /// The same of the goal of a term of two variables.
-fn put_and_undone(alloc: Global, heap: &mut Heap, term: &Term) -> Result<String, Fail>
+pub(crate) fn put_and_undone(
+    alloc: Global,
+    heap: &mut Heap,
+    term: &Term,
+    told: &mut String,
+) -> Result<(), Fail>
     requires seven { IsFresh heap.old 7 }
     requires eight { IsFresh heap.old 8 }
     requires below { AllBelow 2 term.now }
 {
     let goal = put(alloc, heap, term)?;
-    undone(alloc, heap, &goal)
+    undone(alloc, heap, &goal, told)
 }
 
 /// Goals of two sides, and what they are once these are unified, and once that is taken off.
-const UNDONE: [(&str, &str); 6] = [
+pub(crate) const UNDONE: [&[Row]; 1] = [&[
     ("f(X, Y) = f(a, b)", "f(a,b)=f(a,b) and f(_1,_2)=f(a,b)"),
     ("f(X, Y) = f(Y, a)", "f(a,a)=f(a,a) and f(_1,_2)=f(_2,a)"),
     ("X = g(Y)", "g(_1)=g(_1) and _1=g(_2)"),
     ("f(X, b) = f(Y, a)", "no and f(_1,b)=f(_2,a)"),
     ("f(X, Y) = f(Y, g(X))", "no and f(_1,_2)=f(_2,g(_1))"),
     ("g(X, 1, Y) = g(a, 2, b)", "no and g(_1,1,_2)=g(a,2,b)"),
-];
-
-/// What a goal is once its sides are unified, and once that is taken off.
-fn told(alloc: Global, goal: &str) -> Result<String, Fail> {
-    let term = two_variables(alloc, goal)?;
-    let mut heap = Heap::new(alloc, Names::new(alloc));
-    put_and_undone(alloc, &mut heap, &term)
-}
-
-#[test]
-fn rows_of_choices(rt: HostRuntime) -> Result<(), Fail> {
-    let alloc = rt.alloc();
-    for (goal, wanted) in UNDONE {
-        let found = told(alloc, goal)?;
-        assert_eq!(rt; found.as_str(), wanted);
-    }
-    Ok(())
-}
+]];

@@ -12,9 +12,13 @@ mod goals;
 #[cfg(test)]
 mod lists;
 #[cfg(test)]
+mod nodes;
+#[cfg(test)]
 mod pairs;
 #[cfg(test)]
 mod plain;
+#[cfg(test)]
+mod rows;
 #[cfg(test)]
 mod shapes;
 #[cfg(test)]

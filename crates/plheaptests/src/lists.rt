@@ -2,10 +2,11 @@
 ghost use Rattle.std.specs.Prelude.{IfOk};
 ghost use Rattle.plcells.specs.Store.{AreValues, IsValue};
 
+use crate::goals::extend;
+use crate::rows::{Row, show};
 use plcells::cell::Cell;
 use plcells::heap::Heap;
 use plenv::env::Environment;
-use plmade::made::{empty, put_arguments, shown, told};
 use plorder::compare::Room;
 use plorder::occurrences::variables_of;
 use plsort::sort::{by_key, set_of, sorted};
@@ -15,31 +16,31 @@ use std::test::Fail;
 
 /// How values are put in order.
 #[derive(Clone, Copy)]
-enum Sort {
+pub(crate) enum Sort {
     Terms,
     Set,
     Keys,
 }
 
-/// Some values, as the arguments of a goal behind a name, and that name with what is made of them.
-const LISTS: [(Sort, &str, &str); 8] = [
-    (Sort::Terms, "g(f, b, a, 1, a)", "f(1,a,a,b)"),
-    (Sort::Terms, "g(f, h(Y), X, c, 2, -1)", "f(_1,-1,2,c,h(_2))"),
-    (Sort::Terms, "g(f, e, d, c, b, a)", "f(a,b,c,d,e)"),
-    (Sort::Set, "g(f, b, a, 1, a, b)", "f(1,a,b)"),
-    (
-        Sort::Set,
-        "g(f, k(X, Y), k(X, X), k(X, Y))",
-        "f(k(_1,_1),k(_1,_2))",
-    ),
-    (Sort::Set, "g(f, a)", "f(a)"),
-    (
-        Sort::Keys,
-        "g(f, 2-a, 1-b, 2-c, 1-a, 2-a)",
-        "f(1-b,1-a,2-a,2-c,2-a)",
-    ),
-    (Sort::Keys, "g(f, b-1, a-2, a-1)", "f(a-2,a-1,b-1)"),
-];
+/// Some values, as the arguments of a goal behind a name, and that name with them in order.
+pub(crate) const SORTED: [&[Row]; 1] = [&[
+    ("g(f, b, a, 1, a)", "f(1,a,a,b)"),
+    ("g(f, h(Y), X, c, 2, -1)", "f(_1,-1,2,c,h(_2))"),
+    ("g(f, e, d, c, b, a)", "f(a,b,c,d,e)"),
+]];
+
+/// The same with each of them once.
+pub(crate) const SETS: [&[Row]; 1] = [&[
+    ("g(f, b, a, 1, a, b)", "f(1,a,b)"),
+    ("g(f, k(X, Y), k(X, X), k(X, Y))", "f(k(_1,_1),k(_1,_2))"),
+    ("g(f, a)", "f(a)"),
+]];
+
+/// The same by their keys.
+pub(crate) const BY_KEY: [&[Row]; 1] = [&[
+    ("g(f, 2-a, 1-b, 2-c, 1-a, 2-a)", "f(1-b,1-a,2-a,2-c,2-a)"),
+    ("g(f, b-1, a-2, a-1)", "f(a-2,a-1,b-1)"),
+]];
 
 /// The values in order.
 fn in_order(alloc: Global, heap: &Heap, how: Sort, cells: &[Cell]) -> Result<Vec<Cell>, AllocError>
@@ -54,77 +55,63 @@ fn in_order(alloc: Global, heap: &Heap, how: Sort, cells: &[Cell]) -> Result<Vec
     }
 }
 
-/// The text of a name with these arguments, if there are any.
-fn applied(env: &mut Environment, alloc: Global, name: Cell, cells: &[Cell]) -> Result<String, Fail>
+/// Adds the text of a name with these arguments, if there are any.
+fn applied(
+    env: &mut Environment,
+    alloc: Global,
+    name: Cell,
+    cells: &[Cell],
+    told: &mut String,
+) -> Result<(), Fail>
     requires name { IsValue env.old.heap name }
     requires cells { AreValues env.old.heap cells.now }
 {
     if cells.is_empty() {
-        return Ok(shown(alloc, env.heap(), name)?);
+        return show(alloc, env.heap(), name, told);
     }
     if cells.len() > 1024 {
         return Err("too many arguments".into());
     }
-    let made = env.with_arguments(alloc, name, cells)?;
-    told(alloc, env.heap(), made)
+    extend(env, alloc, name, cells, told)
 }
 
-/// The name in front of the arguments of a goal that is put with what is made of the others.
-fn listed_in(env: &mut Environment, alloc: Global, how: Sort, goal: &str) -> Result<String, Fail> {
-    let args = put_arguments(env, alloc, goal)?;
+/// The first argument with what is made of the others.
+pub(crate) fn listed(
+    env: &mut Environment,
+    alloc: Global,
+    how: Sort,
+    args: &[Cell],
+    told: &mut String,
+) -> Result<(), Fail>
+    requires { AreValues env.old.heap args.now }
+{
     let Some((name, cells)) = args.split_first() else {
         return Err("no arguments".into());
     };
     let vs = in_order(alloc, env.heap(), how, cells)?;
-    applied(env, alloc, *name, &vs)
-}
-
-/// The name in front of a goal's arguments with what is made of the others.
-fn listed(alloc: Global, how: Sort, goal: &str) -> Result<String, Fail> {
-    let mut env = empty(alloc);
-    listed_in(&mut env, alloc, how, goal)
+    applied(env, alloc, *name, &vs, told)
 }
 
 /// A name and a term, as the arguments of a goal, and the name with the variables of the term.
-const VARIABLES: [(&str, &str); 4] = [
+pub(crate) const VARIABLES: [&[Row]; 1] = [&[
     ("g(f, h(X, k(Y, X), Z))", "f(_1,_2,_3)"),
     ("g(f(Y), h(k(X, Y), X))", "f(_1,_2,_1)"),
     ("g(f, X)", "f(_1)"),
     ("g(f(a), h(b, 1, [c]))", "f(a)"),
-];
+]];
 
-/// The first argument of a goal that is put with the variables of the second one.
-fn with_variables_in(env: &mut Environment, alloc: Global, goal: &str) -> Result<String, Fail> {
-    let args = put_arguments(env, alloc, goal)?;
-    let [name, term] = args.as_slice() else {
+/// The first one of two arguments with the variables of the second one.
+pub(crate) fn with_variables(
+    env: &mut Environment,
+    alloc: Global,
+    args: &[Cell],
+    told: &mut String,
+) -> Result<(), Fail>
+    requires { AreValues env.old.heap args.now }
+{
+    let [name, term] = args else {
         return Err("no two arguments".into());
     };
     let vs = variables_of(alloc, env.heap(), *term)?;
-    applied(env, alloc, *name, &vs)
-}
-
-/// The first argument of a goal with the variables of the second one.
-fn with_variables(alloc: Global, goal: &str) -> Result<String, Fail> {
-    let mut env = empty(alloc);
-    with_variables_in(&mut env, alloc, goal)
-}
-
-#[test]
-fn rows_of_lists(rt: HostRuntime) -> Result<(), Fail> {
-    let alloc = rt.alloc();
-    for (how, goal, wanted) in LISTS {
-        let found = listed(alloc, how, goal)?;
-        assert_eq!(rt; found.as_str(), wanted);
-    }
-    Ok(())
-}
-
-#[test]
-fn rows_of_variables(rt: HostRuntime) -> Result<(), Fail> {
-    let alloc = rt.alloc();
-    for (goal, wanted) in VARIABLES {
-        let found = with_variables(alloc, goal)?;
-        assert_eq!(rt; found.as_str(), wanted);
-    }
-    Ok(())
+    applied(env, alloc, *name, &vs, told)
 }

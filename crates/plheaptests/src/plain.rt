@@ -1,13 +1,18 @@
 //! Unification as it is defined, on the nodes of terms in prefix order, beside the machine's: where two terms first differ from the left, a
 //! variable stands for the term on the other side, in both of them, until they are the same.
+ghost use Rattle.plcells.specs.Store.{AreValues};
+
+use crate::nodes::take;
 use crate::pairs::PAIRS;
-use crate::unification::unified_side;
+use crate::rows::{Asked, put_others, show};
+use plcells::cell::Cell;
 use plenv::env::Environment;
-use plmade::made::{empty, goal_of};
+use plmade::made::{goal_of, put_arguments};
 use plterm::node::Node;
 use plterm::term::Term;
 use plterm::walk::Shape;
 use std::alloc::{AllocError, Global};
+use std::string::String;
 use std::test::Fail;
 
 /// How often a variable is bound at most: none of the terms has so many.
@@ -91,76 +96,98 @@ fn put(alloc: Global, number: u64, term: &[Node], into: &[Node]) -> Result<Vec<N
     Ok(nodes)
 }
 
-/// Two terms that are unified one variable further.
+/// What two terms come to that are unified one variable further.
 enum Outcome {
     Same,
     Apart,
-    Further(Vec<Node>, Vec<Node>),
+    /// The variable of this number stands for the term of these nodes.
+    Binds(u64, Vec<Node>),
 }
 
-/// One variable is bound in both terms.
-fn round(alloc: Global, left: &[Node], right: &[Node]) -> Result<Outcome, AllocError> {
+/// What two terms come to by the first variable that is to be bound.
+fn next(alloc: Global, left: &[Node], right: &[Node]) -> Result<Outcome, AllocError> {
     let Some((first, second)) = difference(left, right) else {
         return Ok(Outcome::Same);
     };
     match binding(first, second) {
-        Some((number, term)) if !occurs(number, term) => Ok(Outcome::Further(
-            put(alloc, number, term, left)?,
-            put(alloc, number, term, right)?,
-        )),
+        Some((number, term)) if !occurs(number, term) => {
+            let mut nodes = Vec::new(alloc);
+            append(&mut nodes, term)?;
+            Ok(Outcome::Binds(number, nodes))
+        }
         _ => Ok(Outcome::Apart),
     }
 }
 
-/// What the left one of two terms is once they are unified; none where they have no unifier.
-fn plain(alloc: Global, left: &Term, right: &Term) -> Result<Option<Vec<Node>>, AllocError> {
-    let mut left = prefix(alloc, left)?;
-    let mut right = prefix(alloc, right)?;
+/// Puts a term in place of a variable.
+fn bind(
+    alloc: Global,
+    number: u64,
+    term: &[Node],
+    nodes: &mut Vec<Node>,
+) -> Result<(), AllocError> {
+    let made = put(alloc, number, term, nodes)?;
+    *nodes = made;
+    Ok(())
+}
+
+/// Puts a term in place of a variable in two others.
+fn bind_both(
+    alloc: Global,
+    number: u64,
+    term: &[Node],
+    left: &mut Vec<Node>,
+    right: &mut Vec<Node>,
+) -> Result<(), AllocError> {
+    bind(alloc, number, term, left)?;
+    bind(alloc, number, term, right)
+}
+
+/// Makes two terms the same: whether they have a unifier.
+fn unify(alloc: Global, left: &mut Vec<Node>, right: &mut Vec<Node>) -> Result<bool, AllocError> {
     for _ in 0..ROUNDS {
-        match round(alloc, &left, &right)? {
-            Outcome::Same => return Ok(Some(left)),
-            Outcome::Apart => return Ok(None),
-            Outcome::Further(first, second) => {
-                left = first;
-                right = second;
-            }
+        match next(alloc, left, right)? {
+            Outcome::Same => return Ok(true),
+            Outcome::Apart => return Ok(false),
+            Outcome::Binds(number, term) => bind_both(alloc, number, &term, left, right)?,
         }
     }
-    Ok(None)
+    Ok(false)
 }
 
-/// The nodes of a term in prefix order.
-fn prefix(alloc: Global, term: &Term) -> Result<Vec<Node>, AllocError> {
-    let mut nodes = Vec::new(alloc);
-    append(&mut nodes, term.nodes())?;
-    nodes.reverse();
-    Ok(nodes)
-}
-
-/// The two sides of a goal, their variables numbered from 0 on.
-fn sides(alloc: Global, goal: &str) -> Result<(Term, Term), Fail> {
-    let goal = goal_of(alloc, goal)?.copy(alloc, 0)?;
+/// Adds the nodes of both sides of a goal, in prefix order.
+fn put_sides(goal: &Term, left: &mut Vec<Node>, right: &mut Vec<Node>) -> Result<(), Fail> {
     let Shape::Compound(_, mut args) = goal.root().shape() else {
         return Err("no compound".into());
     };
-    let left = args.next_term().ok_or("no left side")?.copied(alloc)?;
-    let right = args.next_term().ok_or("no right side")?.copied(alloc)?;
-    Ok((left, right))
+    if args.len() != 2 {
+        return Err("no two sides".into());
+    }
+    args.copy_nodes(1, left)?;
+    args.copy_nodes(1, right)?;
+    Ok(())
 }
 
-/// What the left side of a goal that is put is by the machine once the sides are unified; none where they have no unifier.
-fn unified_in(env: &mut Environment, alloc: Global, goal: &str) -> Result<Option<Vec<Node>>, Fail> {
-    let Some(v) = unified_side(env, alloc, goal)? else {
-        return Ok(None);
-    };
-    let term = env.heap().take(alloc, v)?;
-    Ok(Some(prefix(alloc, &term)?))
+/// Adds the nodes of a goal's left side, once the sides are unified by definition: none, where they have no unifier.
+fn put_unified(alloc: Global, goal: &Term, left: &mut Vec<Node>) -> Result<(), Fail> {
+    let mut right = Vec::new(alloc);
+    put_sides(goal, left, &mut right)?;
+    if !unify(alloc, left, &mut right)? {
+        left.clear();
+    }
+    Ok(())
 }
 
-/// What the left side of a goal is by the machine once the sides are unified; none where they have no unifier.
-fn unified(alloc: Global, goal: &str) -> Result<Option<Vec<Node>>, Fail> {
-    let mut env = empty(alloc);
-    unified_in(&mut env, alloc, goal)
+/// The goal of a text, its variables numbered from 0 on.
+fn numbered(alloc: Global, text: &str) -> Result<Term, Fail> {
+    let goal = goal_of(alloc, text)?;
+    Ok(goal.copy(alloc, 0)?)
+}
+
+/// Adds the nodes of the left side of a text's goal, once the sides are unified by definition: none, where they have no unifier.
+fn put_plain(alloc: Global, text: &str, left: &mut Vec<Node>) -> Result<(), Fail> {
+    let goal = numbered(alloc, text)?;
+    put_unified(alloc, &goal, left)
 }
 
 /// Whether two runs of nodes are the same.
@@ -168,44 +195,74 @@ fn are_same(left: &[Node], right: &[Node]) -> bool {
     left.len() == right.len() && difference(left, right).is_none()
 }
 
-/// Whether the sides of a goal come to the same by the machine and by the definition.
-fn agree(alloc: Global, goal: &str) -> Result<bool, Fail> {
-    let (left, right) = sides(alloc, goal)?;
-    match (unified(alloc, goal)?, plain(alloc, &left, &right)?) {
-        (Some(made), Some(wanted)) => Ok(are_same(&made, &wanted)),
-        (None, None) => Ok(true),
-        _ => Ok(false),
-    }
+/// Whether the left side of a text's goal has these nodes, once the sides are unified by definition.
+fn is_plain(alloc: Global, text: &str, made: &[Node]) -> Result<bool, Fail> {
+    let mut plain = Vec::new(alloc);
+    put_plain(alloc, text, &mut plain)?;
+    Ok(are_same(made, &plain))
 }
 
-/// The place of the first pair whose sides come to different things.
-fn first_apart(alloc: Global, pairs: &[(&str, &str)]) -> Result<Option<usize>, Fail> {
-    for (place, (goal, _)) in pairs.iter().enumerate() {
-        if !agree(alloc, goal)? {
-            return Ok(Some(place));
-        }
-    }
-    Ok(None)
-}
-
-/// The same of some groups of pairs: the place of the group, and of the pair in it.
-fn first_apart_of(
+/// Adds the text and the nodes of the left one of two arguments, once they are unified by the machine; `no`, and no node, where they have no
+/// unifier.
+fn put_made(
+    env: &mut Environment,
     alloc: Global,
-    groups: &[&[(&str, &str)]],
-) -> Result<Option<(usize, usize)>, Fail> {
-    for (place, pairs) in groups.iter().enumerate() {
-        if let Some(pair) = first_apart(alloc, pairs)? {
-            return Ok(Some((place, pair)));
-        }
+    args: &[Cell],
+    made: &mut Vec<Node>,
+    told: &mut String,
+) -> Result<(), Fail>
+    requires { AreValues env.old.heap args.now }
+{
+    let [left, right] = args else {
+        return Err("no two sides".into());
+    };
+    if !env.unify(*left, *right)? {
+        return Ok(told.push_str("no")?);
     }
-    Ok(None)
+    show(alloc, env.heap(), *left, told)?;
+    Ok(take(alloc, env.heap(), *left, made)?)
 }
 
-// Pairs that look random come to the same by the machine and by the definition.
-#[test]
-fn pairs_by_definition(rt: HostRuntime) -> Result<(), Fail> {
-    for groups in PAIRS {
-        assert_eq!(rt; first_apart_of(rt.alloc(), groups)?, None);
+/// The same of the goal of a text that is put.
+fn put_machine(
+    env: &mut Environment,
+    alloc: Global,
+    text: &str,
+    made: &mut Vec<Node>,
+    told: &mut String,
+) -> Result<(), Fail> {
+    let args = put_arguments(env, alloc, text)?;
+    put_made(env, alloc, &args, made, told)
+}
+
+/// What the left side of a goal is by the machine, once the sides are unified, and whether it is anything else by definition.
+pub(crate) fn pair(
+    env: &mut Environment,
+    alloc: Global,
+    goal: &str,
+    told: &mut String,
+) -> Result<(), Fail> {
+    let mut made = Vec::new(alloc);
+    put_machine(env, alloc, goal, &mut made, told)?;
+    if !is_plain(alloc, goal, &made)? {
+        told.push_str(", and otherwise by definition")?;
     }
+    Ok(())
+}
+
+/// Adds what pairs come to otherwise than they say, or otherwise by definition.
+fn put_pairs(alloc: Global, others: &mut String) -> Result<(), Fail> {
+    for groups in PAIRS.iter() {
+        put_others(alloc, Asked::Pair, groups, others)?;
+    }
+    Ok(())
+}
+
+// Pairs that look random come to what another system makes of them, and to the same by the machine and by the definition.
+#[test]
+fn pairs(rt: HostRuntime) -> Result<(), Fail> {
+    let mut others = String::new(rt.alloc());
+    put_pairs(rt.alloc(), &mut others)?;
+    assert_eq!(rt; others.as_str(), "");
     Ok(())
 }

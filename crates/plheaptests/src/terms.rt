@@ -2,12 +2,13 @@
 ghost use Rattle.std.specs.Prelude.{IfOk};
 ghost use Rattle.plterm.specs.Reading.{IsName};
 ghost use Rattle.plterm.specs.Variables.{AllBelow};
-ghost use Rattle.plcells.specs.Store.{IsValue};
+ghost use Rattle.plcells.specs.Store.{AreValues, IsValue};
 
-use crate::cells::nodes_text;
+use crate::nodes::show_nodes;
+use crate::rows::{Row, show};
 use plcells::cell::Cell;
 use plenv::env::Environment;
-use plmade::made::{empty, name, put_arguments, shown, two_variables};
+use plmade::made::{name, two_variables};
 use plterm::name::Name;
 use plterm::term::Term;
 use std::alloc::{AllocError, Global};
@@ -16,7 +17,7 @@ use std::test::Fail;
 
 /// How a term is put over values.
 #[derive(Clone, Copy)]
-enum Way {
+pub(crate) enum Way {
     Term,
     Nodes,
 }
@@ -36,109 +37,116 @@ fn put_over(env: &mut Environment, alloc: Global, way: Way, term: &Term) -> Resu
     }
 }
 
-/// The nodes of a goal of two variables that is put over new ones, behind three others.
-fn over_in(env: &mut Environment, alloc: Global, way: Way, goal: &str) -> Result<String, Fail> {
+/// The nodes of a term of two variables that is put over new ones, behind three others.
+fn over_others(
+    env: &mut Environment,
+    alloc: Global,
+    way: Way,
+    term: &Term,
+    told: &mut String,
+) -> Result<(), Fail>
+    requires { AllBelow 2 term.now }
+{
+    env.new_values(alloc, 3)?;
+    let v = put_over(env, alloc, way, term)?;
+    show_nodes(alloc, env.heap(), v, told)
+}
+
+/// The same of a goal.
+pub(crate) fn over(
+    env: &mut Environment,
+    alloc: Global,
+    way: Way,
+    goal: &str,
+    told: &mut String,
+) -> Result<(), Fail> {
     let term = two_variables(alloc, goal)?;
-    let _others = env.new_values(alloc, 3)?;
-    let v = put_over(env, alloc, way, &term)?;
-    nodes_text(alloc, env.heap(), v)
+    over_others(env, alloc, way, &term, told)
 }
 
-/// The same in an environment of its own.
-fn over(alloc: Global, way: Way, goal: &str) -> Result<String, Fail> {
-    let mut env = empty(alloc);
-    over_in(&mut env, alloc, way, goal)
+/// Goals of two variables, and the nodes of what is put.
+pub(crate) const OVER: [&[Row]; 1] = [&[
+    ("g(X, f(Y, X))", "g/2 _3 f/2 _4 _3 "),
+    ("[X, a|Y] = Y", "=/2 ./2 _3 ./2 a _4 _4 "),
+]];
+
+/// The same of what is put by its nodes.
+pub(crate) const OVER_NODES: [&[Row]; 1] = [&[
+    ("g(X, f(Y, X))", "g/2 _3 f/2 _4 _3 "),
+    ("h(7, [], X, Y)", "h/4 7 [] _3 _4 "),
+]];
+
+/// What is put of a name.
+#[derive(Clone, Copy)]
+pub(crate) enum Named {
+    /// Its atom.
+    Atom,
+    /// Its compound of two new variables.
+    Compound,
 }
 
-/// Ways, goals of two variables, and the nodes of what is put.
-const OVER: [(Way, &str, &str); 4] = [
-    (Way::Term, "g(X, f(Y, X))", "g/2 _3 f/2 _4 _3 "),
-    (Way::Nodes, "g(X, f(Y, X))", "g/2 _3 f/2 _4 _3 "),
-    (Way::Term, "[X, a|Y] = Y", "=/2 ./2 _3 ./2 a _4 _4 "),
-    (Way::Nodes, "h(7, [], X, Y)", "h/4 7 [] _3 _4 "),
-];
+/// Names, and the nodes of their atoms.
+pub(crate) const ATOMS: [&[Row]; 1] = [&[("f", "f ")]];
 
-/// The nodes of a compound of a name and two new variables.
-fn compound(env: &mut Environment, alloc: Global, name: &Name) -> Result<String, Fail>
+/// Names, and the nodes of their compounds.
+pub(crate) const COMPOUNDS: [&[Row]; 1] = [&[("f", "f/2 _0 _1 ")]];
+
+/// Puts what is put of a name: its value.
+fn put_named(
+    env: &mut Environment,
+    alloc: Global,
+    of: Named,
+    name: &Name,
+) -> Result<Cell, AllocError>
     requires { IsName name.now }
+    ensures { IfOk result (λ v. IsValue env.new.heap v) }
 {
-    let values = env.new_values(alloc, 2)?;
-    let v = env.put_named(name, &values)?;
-    nodes_text(alloc, env.heap(), v)
-}
-
-/// The nodes of the atom of a name.
-fn atom(env: &mut Environment, alloc: Global, name: &Name) -> Result<String, Fail>
-    requires { IsName name.now }
-{
-    let v = env.put_atom(name)?;
-    nodes_text(alloc, env.heap(), v)
-}
-
-/// The left side of a goal that is put, once the sides are unified in a choice; `no`, where they have no unifier.
-fn in_choice(env: &mut Environment, alloc: Global, goal: &str) -> Result<String, Fail> {
-    let args = put_arguments(env, alloc, goal)?;
-    let [left, right] = args.as_slice() else {
-        return Err("no two sides".into());
-    };
-    if env.unify_in_choice(*left, *right)? {
-        Ok(shown(alloc, env.heap(), *left)?)
-    } else {
-        Ok("no".to_string(alloc)?)
+    match of {
+        Named::Atom => env.put_atom(name),
+        Named::Compound => {
+            let values = env.new_values(alloc, 2)?;
+            env.put_named(name, &values)
+        }
     }
 }
 
-/// The same in an environment of its own.
-fn unified(alloc: Global, goal: &str) -> Result<String, Fail> {
-    let mut env = empty(alloc);
-    in_choice(&mut env, alloc, goal)
+/// The nodes of what is put of the name of a text.
+pub(crate) fn by_name(
+    env: &mut Environment,
+    alloc: Global,
+    of: Named,
+    text: &str,
+    told: &mut String,
+) -> Result<(), Fail> {
+    let name = name(alloc, text)?;
+    let v = put_named(env, alloc, of, &name)?;
+    show_nodes(alloc, env.heap(), v, told)
+}
+
+/// The left one of two arguments, once they are unified in a choice; `no`, where they have no unifier.
+pub(crate) fn in_choice(
+    env: &mut Environment,
+    alloc: Global,
+    args: &[Cell],
+    told: &mut String,
+) -> Result<(), Fail>
+    requires { AreValues env.old.heap args.now }
+{
+    let [left, right] = args else {
+        return Err("no two sides".into());
+    };
+    if env.unify_in_choice(*left, *right)? {
+        show(alloc, env.heap(), *left, told)
+    } else {
+        Ok(told.push_str("no")?)
+    }
 }
 
 /// Goals of two sides, and what the left one is once they are unified.
-const UNIFIED: [(&str, &str); 5] = [
+pub(crate) const IN_CHOICE: [&[Row]; 1] = [&[
     ("f(X, b) = f(a, Y)", "f(a,b)"),
     ("f(X, X) = f(Y, b)", "f(b,b)"),
     ("f(X, X) = f(a, b)", "no"),
     ("X = f(X)", "no"),
     ("f(g(X), Y) = f(Y, Z)", "f(g(_1),g(_1))"),
-];
-
-#[test]
-fn rows_of_values(rt: HostRuntime) -> Result<(), Fail> {
-    let alloc = rt.alloc();
-    for (way, goal, wanted) in OVER {
-        let found = over(alloc, way, goal)?;
-        assert_eq!(rt; found.as_str(), wanted);
-    }
-    Ok(())
-}
-
-#[test]
-fn compound_of_a_name(rt: HostRuntime) -> Result<(), Fail> {
-    let alloc = rt.alloc();
-    let name = name(alloc, "f")?;
-    let mut env = empty(alloc);
-    let found = compound(&mut env, alloc, &name)?;
-    assert_eq!(rt; found.as_str(), "f/2 _0 _1 ");
-    Ok(())
-}
-
-#[test]
-fn atom_of_a_name(rt: HostRuntime) -> Result<(), Fail> {
-    let alloc = rt.alloc();
-    let name = name(alloc, "f")?;
-    let mut env = empty(alloc);
-    let found = atom(&mut env, alloc, &name)?;
-    assert_eq!(rt; found.as_str(), "f ");
-    Ok(())
-}
-
-#[test]
-fn rows_of_choices(rt: HostRuntime) -> Result<(), Fail> {
-    let alloc = rt.alloc();
-    for (goal, wanted) in UNIFIED {
-        let found = unified(alloc, goal)?;
-        assert_eq!(rt; found.as_str(), wanted);
-    }
-    Ok(())
-}
+]];

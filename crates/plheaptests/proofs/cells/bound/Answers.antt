@@ -11,9 +11,9 @@ bind-requires c =
     let b = binding-of c.variable.new.self c.boundary-old.ensures.heap c.in_ok-x.x 7 (Int (lib.IntN.pos 5)) added.end added.is tt refl in
     (b.0, b.1)
 
-pub shown-requires : goal.shown-requires
+pub show-requires : goal.show-requires
 unfolding occurs
-shown-requires c =
+show-requires c =
     let added = c.in_ok-x.ensures.ok in
     let b = binding-of c.variable.new.self c.boundary-old.ensures.heap c.in_ok-x.x 7 (Int (lib.IntN.pos 5)) added.end added.is tt refl in
     (((c.in_ok-bind.ensures.ok b.0 b.1).values) (Ref c.in_ok-x.x) added.fits).0

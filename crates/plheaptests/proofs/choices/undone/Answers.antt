@@ -14,11 +14,11 @@ cut_back-requires-clause-old c =
     let m = c.mark-mark.ensures in
     omega (arith, c.boundary-boundary.ensures.within, mark-cells c.mark-mark.result c.args.heap.now c.mark-mark.new.self m.now m.same)
 
-pub shown-requires : goal.shown-requires
-shown-requires c =
+pub show-requires : goal.show-requires
+show-requires c =
     let h = c.args.heap.now in
     let m = c.mark-mark.ensures in
-    let keeps = c.in_ok-during.ensures in
+    let keeps = c.in_ok-unified.ensures in
     let back = given-back c.mark-mark.result h c.mark-mark.new.self m.now m.same c.unified.new.heap c.cut_back.new.self _ m.mark keeps.keeps c.cut_back.ensures.cut c.boundary-boundary.ensures.is in
     let names : c.unified.new.heap.names ≡ h.names = keeps.names ∙ ap (λ (x : Store). x.names) m.same in
     subst (λ x. IsValue x c.args.goal.now) (sym (back ∙ ap (renamed h) names)) c.requires
