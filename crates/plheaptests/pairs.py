@@ -11,15 +11,16 @@ import sys
 
 HERE = os.path.dirname(os.path.realpath(__file__))
 PATH = os.path.join(HERE, "src", "pairs.rt")
-NAMES = ["FIRST", "SECOND", "THIRD", "FOURTH", "FIFTH"]
-# How many pairs a table has, and each group of it, since a long group takes the prover long.
-TABLE = 40
-GROUP = 8
+COUNT = 200
 VARIABLES = ["X", "Y", "Z", "U"]
 ATOMS = ["a", "b"]
 COMPOUNDS = 7
-HEAD = '''//! Pairs of terms that look random, made by pairs.py: each is two terms, as the sides of a goal, and what the left one is once they are
-//! unified, its variables _1, _2, .. by first occurrence; `no`, where they have no unifier. Told by SWI-Prolog, with the occurs check.
+HEAD = '''//! Pairs of terms that look random, made by pairs.py.
+
+/// A pair on each line: two terms, as the sides of a goal, and behind a colon what the left one is once they are unified, its variables _1,
+/// _2, .. by first occurrence; `no`, where they have no unifier. Told by SWI-Prolog, with the occurs check. They are one text, since a table
+/// of so many takes the prover long.
+pub(crate) const PAIRS: &str = "\\
 '''
 TELL = """
 tell(L, R) :- ( unify_with_occurs_check(L, R) -> tell(L) ; write(no) ), nl.
@@ -44,30 +45,15 @@ def told(pairs):
     return run.stdout.split("\n")[:-1]
 
 
-def row(goal, answer):
-    """A row as it is formatted."""
-    line = f'        ("{goal}", "{answer}"),\n'
-    return line if len(line) <= 72 else f'        (\n            "{goal}",\n            "{answer}",\n        ),\n'
-
-
-def table(name, rows):
-    """A constant of some rows in groups."""
-    groups = [rows[at : at + GROUP] for at in range(0, len(rows), GROUP)]
-    return f"\nconst {name}: [&[(&str, &str)]; {len(groups)}] = [\n" + "".join("    &[\n" + "".join(group) + "    ],\n" for group in groups) + "];\n"
-
-
 def main():
     random_ = random.Random(7)
     pairs = []
-    while len(pairs) < TABLE * len(NAMES):
+    while len(pairs) < COUNT:
         left, right = pair(random_)
         if len(left) + len(right) < 120 and (left, right) not in pairs:
             pairs.append((left, right))
-    rows = [row(f"{left} = {right}", answer) for (left, right), answer in zip(pairs, told(pairs), strict=True)]
-    text = HEAD
-    for number, name in enumerate(NAMES):
-        text += table(name, rows[number * TABLE : (number + 1) * TABLE])
-    text += f"\n/// All of them, in groups.\npub(crate) const PAIRS: [&[&[(&str, &str)]]; {len(NAMES)}] = [{', '.join('&' + name for name in NAMES)}];\n"
+    lines = [f"{left} = {right}: {answer}\n" for (left, right), answer in zip(pairs, told(pairs), strict=True)]
+    text = HEAD + "".join(lines) + '";\n'
     if sys.argv[1:] == ["--check"]:
         with open(PATH, encoding="utf-8") as file:
             same = file.read() == text

@@ -4,7 +4,7 @@ ghost use Rattle.plcells.specs.Store.{AreValues};
 
 use crate::nodes::take;
 use crate::pairs::PAIRS;
-use crate::rows::{Asked, put_others, show};
+use crate::rows::{Asked, put_other, show};
 use plcells::cell::Cell;
 use plenv::env::Environment;
 use plmade::made::{goal_of, put_arguments};
@@ -250,10 +250,18 @@ pub(crate) fn pair(
     Ok(())
 }
 
-/// Adds what pairs come to otherwise than they say, or otherwise by definition.
+/// Adds what the pair of a line comes to otherwise than it says, or otherwise by definition.
+fn put_pair(alloc: Global, line: &str, others: &mut String) -> Result<(), Fail> {
+    let Some(row) = line.split_once(": ") else {
+        return Err("no pair".into());
+    };
+    put_other(alloc, Asked::Pair, row, others)
+}
+
+/// The same of all pairs.
 fn put_pairs(alloc: Global, others: &mut String) -> Result<(), Fail> {
-    for groups in PAIRS.iter() {
-        put_others(alloc, Asked::Pair, groups, others)?;
+    for line in PAIRS.lines() {
+        put_pair(alloc, line, others)?;
     }
     Ok(())
 }

@@ -176,7 +176,7 @@ fn put_unlike(others: &mut String, found: &str, row: (&str, &str)) -> Result<(),
 }
 
 /// Adds what is told of a row's goal otherwise than the row says.
-fn put_other(
+pub(crate) fn put_other(
     alloc: Global,
     asked: Asked,
     row: (&str, &str),
@@ -196,7 +196,7 @@ fn put_rows(alloc: Global, asked: Asked, rows: &[Row], others: &mut String) -> R
 }
 
 /// Adds what is told otherwise than the rows of some groups say.
-pub(crate) fn put_others(
+fn put_others(
     alloc: Global,
     asked: Asked,
     groups: &[&[Row]],
