@@ -9,7 +9,7 @@ use crate::nodes::{FILLED, TAKEN, filled, taken};
 use crate::plain::pair;
 use crate::shapes::{SHAPES, shape};
 use crate::terms::{
-    ATOMS, COMPOUNDS, IN_CHOICE, Named, OVER, OVER_NODES, Way, by_name, in_choice, over,
+    ATOMS, COMPOUNDS, IN_CHOICE, Named, OVER, OVER_NODES, Way, by_name, in_choice, over, solved,
 };
 use crate::unification::{KEPT, UNIFIED, kept, unified};
 use platoms::names::Names;
@@ -45,6 +45,8 @@ pub(crate) enum Arguments {
     Unified,
     /// The same in a choice.
     InChoice,
+    /// The same by an equation.
+    Solved,
     /// Both, once a unification has failed.
     Kept,
 }
@@ -103,6 +105,7 @@ fn tell_arguments(
         Arguments::Variables => with_variables(env, alloc, args, told),
         Arguments::Unified => unified(env, alloc, args, told),
         Arguments::InChoice => in_choice(env, alloc, args, told),
+        Arguments::Solved => solved(env, alloc, args, told),
         Arguments::Kept => kept(env, alloc, args, told),
     }
 }
@@ -209,7 +212,7 @@ fn put_others(
 }
 
 /// What is told of goals, and the goals with it.
-const TABLE: [(Asked, &[&[Row]]); 18] = [
+const TABLE: [(Asked, &[&[Row]]); 20] = [
     (Asked::Arguments(Arguments::Converted), &CONVERTED),
     (Asked::Arguments(Arguments::Extended), &EXTENDED),
     (Asked::Arguments(Arguments::Ordered), &ORDERED),
@@ -220,12 +223,14 @@ const TABLE: [(Asked, &[&[Row]]); 18] = [
     (Asked::Arguments(Arguments::Variables), &VARIABLES),
     (Asked::Arguments(Arguments::Unified), &UNIFIED),
     (Asked::Arguments(Arguments::InChoice), &IN_CHOICE),
+    (Asked::Arguments(Arguments::Solved), &IN_CHOICE),
     (Asked::Arguments(Arguments::Kept), &KEPT),
     (Asked::Nodes, &TAKEN),
     (Asked::Over(Way::Term), &OVER),
     (Asked::Over(Way::Nodes), &OVER_NODES),
     (Asked::Named(Named::Compound), &COMPOUNDS),
     (Asked::Named(Named::Atom), &ATOMS),
+    (Asked::Named(Named::Number), &ATOMS),
     (Asked::OnHeap(OnHeap::Undone), &UNDONE),
     (Asked::OnHeap(OnHeap::Filled), &FILLED),
 ];

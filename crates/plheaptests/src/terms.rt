@@ -7,6 +7,7 @@ ghost use Rattle.plcells.specs.Store.{AreValues, IsValue};
 use crate::nodes::show_nodes;
 use crate::rows::{Row, show};
 use plcells::cell::Cell;
+use plcells::equation::Equation;
 use plenv::env::Environment;
 use plmade::made::{name, two_variables};
 use plterm::name::Name;
@@ -81,6 +82,8 @@ pub(crate) const OVER_NODES: [&[Row]; 1] = [&[
 pub(crate) enum Named {
     /// Its atom.
     Atom,
+    /// The same by its number.
+    Number,
     /// Its compound of two new variables.
     Compound,
 }
@@ -103,6 +106,7 @@ fn put_named(
 {
     match of {
         Named::Atom => env.put_atom(name),
+        Named::Number => Ok(Cell::Atom(env.atom(name)?)),
         Named::Compound => {
             let values = env.new_values(alloc, 2)?;
             env.put_named(name, &values)
@@ -136,6 +140,31 @@ pub(crate) fn in_choice(
         return Err("no two sides".into());
     };
     if env.unify_in_choice(*left, *right)? {
+        show(alloc, env.heap(), *left, told)
+    } else {
+        Ok(told.push_str("no")?)
+    }
+}
+
+/// The left one of two arguments, once the equation of both is solved in a choice; `no`, where it has no solution.
+pub(crate) fn solved(
+    env: &mut Environment,
+    alloc: Global,
+    args: &[Cell],
+    told: &mut String,
+) -> Result<(), Fail>
+    requires { AreValues env.old.heap args.now }
+{
+    let [left, right] = args else {
+        return Err("no two sides".into());
+    };
+    let equation = Equation {
+        left: Term::var(alloc, 0)?,
+        right: Term::var(alloc, 1)?,
+        values: vec![in alloc; *left, *right]?,
+        new: 0,
+    };
+    if env.solve_in_choice(alloc, equation)? {
         show(alloc, env.heap(), *left, told)
     } else {
         Ok(told.push_str("no")?)
