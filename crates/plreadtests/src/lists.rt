@@ -1,15 +1,40 @@
 //! Lists among the terms of complete operands (plread).
 ghost use Rattle.std.specs.Prelude.{◌≡◌, ◌+◌, length, OnOk};
 
+use crate::reading::has_shape;
 use plread::lists::{close, join, push_chars, push_codes};
 use plread::words::Words;
-use plreadmade::made::shape;
 use plterm::builder::Builder;
 use plterm::node::Node;
 use plterm::term::Term;
 use std::alloc::{AllocError, Global};
-use std::string::String;
 use std::test::Fail;
+
+/// A list, by what it is made of.
+enum Made {
+    /// 1 and 2, with a variable as its tail.
+    Joined,
+    /// 1, 2 and a variable.
+    Closed,
+    /// The codes of a text.
+    Codes(&'static str),
+    /// The characters of a text.
+    Chars(&'static str),
+}
+
+/// A list, and its nodes in prefix order: a list's cells have the name `.` (6.3.5).
+type Row = (Made, &'static str);
+
+const LISTS: [Row; 8] = [
+    (Made::Joined, "./2 1 ./2 2 _0"),
+    (Made::Closed, "./2 1 ./2 2 ./2 _0 []"),
+    (Made::Codes(""), "[]"),
+    (Made::Chars(""), "[]"),
+    (Made::Codes("a"), "./2 97 []"),
+    (Made::Chars("a"), "./2 a []"),
+    (Made::Codes("aé€"), "./2 97 ./2 233 ./2 8364 []"),
+    (Made::Chars("aé€"), "./2 a ./2 é ./2 € []"),
+];
 
 /// Adds 1, 2 and a variable.
 fn push_three(terms: &mut Builder) -> Result<(), AllocError>
@@ -20,66 +45,50 @@ fn push_three(terms: &mut Builder) -> Result<(), AllocError>
     terms.push(Node::Var(0))
 }
 
-/// The list of 1 and 2 whose tail is a variable.
-fn joined(alloc: Global, words: &Words) -> Result<Term, AllocError> {
-    let mut terms = Builder::new(alloc);
-    push_three(&mut terms)?;
-    join(alloc, words, &mut terms, 2)?;
-    terms.finish(alloc)
-}
-
-/// The list of 1, 2 and a variable.
-fn closed(alloc: Global, words: &Words) -> Result<Term, AllocError> {
-    let mut terms = Builder::new(alloc);
-    push_three(&mut terms)?;
-    close(alloc, words, &mut terms, 3)?;
-    terms.finish(alloc)
-}
-
-// A list's cells have the name `.` (6.3.5).
-#[test]
-fn lists_of_terms(rt: HostRuntime) -> Result<(), Fail> {
-    let alloc = rt.alloc();
-    let words = Words::new(alloc)?;
-    let found = shape(alloc, &joined(alloc, &words)?)?;
-    assert_eq!(rt; found.as_str(), "./2 1 ./2 2 _0");
-    let found = shape(alloc, &closed(alloc, &words)?)?;
-    assert_eq!(rt; found.as_str(), "./2 1 ./2 2 ./2 _0 []");
-    Ok(())
-}
-
-/// The lists of a text's codes, and of its characters.
-fn texts(alloc: Global, words: &Words, text: &str) -> Result<(Term, Term), AllocError> {
-    let mut terms = Builder::new(alloc);
-    push_codes(alloc, words, &mut terms, text)?;
-    let codes = terms.finish(alloc)?;
-    let mut terms = Builder::new(alloc);
-    push_chars(alloc, words, &mut terms, text)?;
-    Ok((codes, terms.finish(alloc)?))
-}
-
-/// The nodes of both.
-fn shapes(alloc: Global, words: &Words, text: &str) -> Result<(String, String), Fail> {
-    let (codes, characters) = texts(alloc, words, text)?;
-    Ok((shape(alloc, &codes)?, shape(alloc, &characters)?))
-}
-
-/// A text, and the nodes of both lists in prefix order.
-const TEXTS: [(&str, &str, &str); 3] = [
-    ("", "[]", "[]"),
-    ("a", "./2 97 []", "./2 a []"),
-    ("aé€", "./2 97 ./2 233 ./2 8364 []", "./2 a ./2 é ./2 € []"),
-];
-
-#[test]
-fn lists_of_texts(rt: HostRuntime) -> Result<(), Fail> {
-    let words = Words::new(rt.alloc())?;
-    for (text, codes, characters) in TEXTS {
-        let (first, second) = shapes(rt.alloc(), &words, text)?;
-        assert!(rt;
-            first.as_str() == codes && second.as_str() == characters,
-            "{text}"
-        );
+/// Adds a list to no terms.
+fn push(alloc: Global, words: &Words, terms: &mut Builder, made: &Made) -> Result<(), AllocError>
+    requires { length terms.old ≡ 0 }
+    ensures { OnOk result (length terms.new ≡ 1) }
+{
+    match made {
+        Made::Joined => {
+            push_three(terms)?;
+            join(alloc, words, terms, 2)
+        }
+        Made::Closed => {
+            push_three(terms)?;
+            close(alloc, words, terms, 3)
+        }
+        Made::Codes(text) => push_codes(alloc, words, terms, text),
+        Made::Chars(text) => push_chars(alloc, words, terms, text),
     }
+}
+
+fn list(alloc: Global, words: &Words, made: &Made) -> Result<Term, AllocError> {
+    let mut terms = Builder::new(alloc);
+    push(alloc, words, &mut terms, made)?;
+    terms.finish(alloc)
+}
+
+/// Whether a list has the nodes of its row.
+fn is_row(alloc: Global, words: &Words, row: &Row) -> Result<bool, Fail> {
+    let list = list(alloc, words, &row.0)?;
+    has_shape(alloc, &list, row.1)
+}
+
+/// The place of the first row of which that is not so.
+fn first_wrong(alloc: Global, words: &Words, rows: &[Row]) -> Result<Option<usize>, Fail> {
+    for (place, row) in rows.iter().enumerate() {
+        if !is_row(alloc, words, row)? {
+            return Ok(Some(place));
+        }
+    }
+    Ok(None)
+}
+
+#[test]
+fn lists(rt: HostRuntime) -> Result<(), Fail> {
+    let words = Words::new(rt.alloc())?;
+    assert_eq!(rt; first_wrong(rt.alloc(), &words, &LISTS)?, None);
     Ok(())
 }
