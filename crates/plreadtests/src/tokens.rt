@@ -1,4 +1,5 @@
 //! Tokens (pllex).
+use crate::reading::push_pieces;
 use pllex::characters::{after_mark, begins_with, is_character, rest_of_character};
 use pllex::clause::clause_tokens;
 use pllex::digits::{is_digit, with_digit};
@@ -14,31 +15,21 @@ use plterm::characters::is_symbol;
 use std::alloc::{AllocError, Global};
 use std::test::Fail;
 
-/// The kinds of the next clause's tokens, or the fault; None where only layout is left.
-fn kinds(alloc: Global, text: &[u8]) -> Result<Option<Vec<Kind>>, LexError> {
-    match clause_tokens(alloc, text, 0)? {
-        None => Ok(None),
-        Some(clause) => {
-            let kinds: Result<Vec<Kind>, AllocError> = clause
-                .tokens
-                .iter()
-                .map(|token| token.kind)
-                .collect(alloc);
-            Ok(Some(kinds?))
+/// Whether tokens are of these kinds.
+fn are_of(tokens: &[Token], kinds: &[Kind]) -> bool {
+    for (token, kind) in tokens.iter().zip(kinds.iter()) {
+        if token.kind != *kind {
+            return false;
         }
     }
+    tokens.len() == kinds.len()
 }
 
-/// The first token, or the fault.
-fn first(alloc: Global, text: &[u8]) -> Result<Token, LexError> {
-    let none = Token {
-        kind: Kind::End,
-        start: 0,
-        end: 0,
-    };
+/// Whether the next clause has tokens of these kinds, and ends at a place.
+fn is_clause(alloc: Global, text: &[u8], kinds: &[Kind], end: usize) -> Result<bool, LexError> {
     match clause_tokens(alloc, text, 0)? {
-        None => Ok(none),
-        Some(clause) => Ok(clause.tokens.first().map_or(none, |token| *token)),
+        Some(clause) => Ok(are_of(&clause.tokens, kinds) && clause.after == end),
+        None => Ok(false),
     }
 }
 
@@ -47,7 +38,7 @@ fn first(alloc: Global, text: &[u8]) -> Result<Token, LexError> {
 fn tokens_of_a_clause(rt: HostRuntime) -> Result<(), Fail> {
     let text =
         b"\xEF\xBB\xBF% \xC3\xA9\nf(X, _y, 12):- /* \xE2\x82\xAC \xF0\x9F\x98\x80 */!,[b|'c']; {\"d\"}. e";
-    let wanted = [
+    let kinds = [
         Kind::Name,
         Kind::Open,
         Kind::Variable,
@@ -70,15 +61,14 @@ fn tokens_of_a_clause(rt: HostRuntime) -> Result<(), Fail> {
         Kind::CloseCurly,
         Kind::End,
     ];
-    let found = kinds(rt.alloc(), text)?;
-    assert!(rt; found.map_or(false, |found| found.as_slice() == wanted.as_slice()));
-    let clause = clause_tokens(rt.alloc(), text, 0)?;
-    assert_eq!(rt; clause.map_or(0, |clause| clause.after), text.len() - 2);
+    assert!(rt; is_clause(rt.alloc(), text, &kinds, text.len() - 2)?);
     Ok(())
 }
 
 /// A text, the kind of its first token, and where it ends.
-const FIRST_TOKENS: [(&[u8], Kind, usize); 36] = [
+type FirstRow = (&'static [u8], Kind, usize);
+
+const FIRST_TOKENS: [FirstRow; 36] = [
     (b"aB_1(.", Kind::Name, 4),
     (b"\\+a.", Kind::Name, 2),
     (b";;.", Kind::Name, 1),
@@ -125,112 +115,155 @@ const FIRST_TOKENS: [(&[u8], Kind, usize); 36] = [
     (b"1.a.", Kind::Integer(1), 1),
 ];
 
-// The first token of a text: its kind, and where it ends.
+/// Whether the first token of a text is so.
+fn is_first(alloc: Global, row: &FirstRow) -> Result<bool, LexError> {
+    let (text, kind, end) = *row;
+    match clause_tokens(alloc, text, 0)? {
+        Some(clause) => Ok(matches!(
+            clause.tokens.first(),
+            Some(token) if token.kind == kind && token.end == end
+        )),
+        None => Ok(false),
+    }
+}
+
 #[test]
 fn first_tokens(rt: HostRuntime) -> Result<(), Fail> {
-    for (text, kind, end) in FIRST_TOKENS.iter() {
-        let token = first(rt.alloc(), text)?;
-        assert_eq!(rt; token.kind, *kind);
-        assert_eq!(rt; token.end, *end);
+    for row in FIRST_TOKENS.iter() {
+        assert!(rt; is_first(rt.alloc(), row)?, "end {}", row.2);
     }
     Ok(())
 }
 
 /// A text, its first fault, and the place.
-const FAULTS: [(&[u8], Fault, usize); 44] = [
-    (b"a `b`.", Fault::BadCharacter, 2),
-    (b"a\x00.", Fault::BadCharacter, 1),
-    (b"\xC3\xA9.", Fault::BadCharacter, 0),
-    (b"a\xFF.", Fault::BadUtf8, 1),
-    (b"% \xC3(\na.", Fault::BadUtf8, 2),
-    (b"% \xE2\x82", Fault::BadUtf8, 2),
-    (b"/* \xED\xA0\x80 */a.", Fault::BadUtf8, 3),
-    (b"/* \xC0\x80 ", Fault::BadUtf8, 3),
-    (b"'a\xFFb'.", Fault::BadUtf8, 2),
-    (b"'\xC3", Fault::BadUtf8, 1),
-    (b"0'\xFF.", Fault::BadUtf8, 2),
-    (b"a 'b.", Fault::OpenQuoted, 2),
-    (b"\"", Fault::OpenQuoted, 0),
-    (b"'a\nb'.", Fault::OpenQuoted, 0),
-    (b"'a\\", Fault::OpenQuoted, 0),
-    (b"'a\\x41", Fault::OpenQuoted, 0),
-    (b"'a\\x\nb'.", Fault::OpenQuoted, 0),
-    (b"'a''", Fault::OpenQuoted, 0),
-    (b"0'", Fault::OpenQuoted, 1),
-    (b"'a\x07'.", Fault::BadCharacter, 2),
-    (b"'a\x7F'.", Fault::BadCharacter, 2),
-    (b"'a\r\n'.", Fault::BadCharacter, 2),
-    (b"0'\n.", Fault::BadCharacter, 2),
-    (b"0'\x01.", Fault::BadCharacter, 2),
-    (b"'a\\qb'.", Fault::BadEscape, 2),
-    (b"'\\x'.", Fault::BadEscape, 1),
-    (b"'\\x\\'.", Fault::BadEscape, 1),
-    (b"'\\x4g\\'.", Fault::BadEscape, 1),
-    (b"'\\18\\'.", Fault::BadEscape, 1),
-    (b"'ab\\xD800\\'.", Fault::BadEscape, 3),
-    (b"'\\x110000\\'.", Fault::BadEscape, 1),
-    (b"'\\x110000", Fault::BadEscape, 1),
-    (b"'a\\\xFF'.", Fault::BadEscape, 2),
-    (b"0'\\q.", Fault::BadEscape, 2),
-    (b"0'\\\n.", Fault::BadEscape, 2),
-    (b"'\\q\x01'.", Fault::BadEscape, 1),
-    (b" /* a", Fault::OpenComment, 1),
-    (b"x(9223372036854775809).", Fault::IntTooBig, 2),
-    (b"x(0x8000000000000001).", Fault::IntTooBig, 2),
-    (b"x(1.5).", Fault::FloatLiteral, 2),
-    (b"9223372036854775809.5.", Fault::FloatLiteral, 0),
-    (b" a b", Fault::NoEnd, 1),
-    (b"a.b", Fault::NoEnd, 0),
-    (b"a, /* . */ % .", Fault::NoEnd, 0),
+type FaultRow = (&'static [u8], Fault, usize);
+
+const FAULTS: [&[FaultRow]; 6] = [
+    &[
+        (b"a `b`.", Fault::BadCharacter, 2),
+        (b"a\x00.", Fault::BadCharacter, 1),
+        (b"\xC3\xA9.", Fault::BadCharacter, 0),
+        (b"a\xFF.", Fault::BadUtf8, 1),
+        (b"% \xC3(\na.", Fault::BadUtf8, 2),
+        (b"% \xE2\x82", Fault::BadUtf8, 2),
+        (b"/* \xED\xA0\x80 */a.", Fault::BadUtf8, 3),
+        (b"/* \xC0\x80 ", Fault::BadUtf8, 3),
+    ],
+    &[
+        (b"'a\xFFb'.", Fault::BadUtf8, 2),
+        (b"'\xC3", Fault::BadUtf8, 1),
+        (b"0'\xFF.", Fault::BadUtf8, 2),
+        (b"a 'b.", Fault::OpenQuoted, 2),
+        (b"\"", Fault::OpenQuoted, 0),
+        (b"'a\nb'.", Fault::OpenQuoted, 0),
+        (b"'a\\", Fault::OpenQuoted, 0),
+        (b"'a\\x41", Fault::OpenQuoted, 0),
+    ],
+    &[
+        (b"'a\\x\nb'.", Fault::OpenQuoted, 0),
+        (b"'a''", Fault::OpenQuoted, 0),
+        (b"0'", Fault::OpenQuoted, 1),
+        (b"'a\x07'.", Fault::BadCharacter, 2),
+        (b"'a\x7F'.", Fault::BadCharacter, 2),
+        (b"'a\r\n'.", Fault::BadCharacter, 2),
+        (b"0'\n.", Fault::BadCharacter, 2),
+    ],
+    &[
+        (b"0'\x01.", Fault::BadCharacter, 2),
+        (b"'a\\qb'.", Fault::BadEscape, 2),
+        (b"'\\x'.", Fault::BadEscape, 1),
+        (b"'\\x\\'.", Fault::BadEscape, 1),
+        (b"'\\x4g\\'.", Fault::BadEscape, 1),
+        (b"'\\18\\'.", Fault::BadEscape, 1),
+        (b"'ab\\xD800\\'.", Fault::BadEscape, 3),
+    ],
+    &[
+        (b"'\\x110000\\'.", Fault::BadEscape, 1),
+        (b"'\\x110000", Fault::BadEscape, 1),
+        (b"'a\\\xFF'.", Fault::BadEscape, 2),
+        (b"0'\\q.", Fault::BadEscape, 2),
+        (b"0'\\\n.", Fault::BadEscape, 2),
+        (b"'\\q\x01'.", Fault::BadEscape, 1),
+        (b" /* a", Fault::OpenComment, 1),
+    ],
+    &[
+        (b"x(9223372036854775809).", Fault::IntTooBig, 2),
+        (b"x(0x8000000000000001).", Fault::IntTooBig, 2),
+        (b"x(1.5).", Fault::FloatLiteral, 2),
+        (b"9223372036854775809.5.", Fault::FloatLiteral, 0),
+        (b" a b", Fault::NoEnd, 1),
+        (b"a.b", Fault::NoEnd, 0),
+        (b"a, /* . */ % .", Fault::NoEnd, 0),
+    ],
 ];
+
+/// The place of the first row that has no such fault.
+fn first_wrong(alloc: Global, rows: &[FaultRow]) -> Option<usize> {
+    for (place, row) in rows.iter().enumerate() {
+        let found = clause_tokens(alloc, row.0, 0).err();
+        if found != Some(LexError::Bad(row.1, row.2)) {
+            return Some(place);
+        }
+    }
+    None
+}
 
 // Each fault, at its place; of several in one item, the one that is met first.
 #[test]
-fn faults(rt: HostRuntime) -> Result<(), Fail> {
-    for (text, fault, place) in FAULTS.iter() {
-        let found = kinds(rt.alloc(), text).err();
-        assert_eq!(rt; found, Some(LexError::Bad(*fault, *place)));
+fn faults(rt: HostRuntime) {
+    for rows in FAULTS {
+        assert_eq!(rt; first_wrong(rt.alloc(), rows), None);
     }
+}
+
+// Only layout is left.
+#[test]
+fn no_clauses(rt: HostRuntime) -> Result<(), Fail> {
     for text in [b" ".as_slice(), b"", b"% a", b"/**/\n"] {
-        assert!(rt; kinds(rt.alloc(), text)?.is_none());
+        assert!(rt; clause_tokens(rt.alloc(), text, 0)?.is_none());
     }
     Ok(())
 }
 
-/// What stands before so many `a`, what behind them, and whether these are tokens.
-const LONG_NAMES: [(&str, usize, &str, bool); 5] = [
-    ("", 65536, "", false),
-    ("'", 65536, "'", false),
-    ("'", 65535, "'.", true),
-    ("\"", 65536, "\".", true),
-    ("", 65535, ".", true),
+/// A text, by its pieces and how many times each stands there, and whether its name fits.
+type LongRow = (&'static [(&'static [u8], usize)], bool);
+
+const LONG_NAMES: [LongRow; 5] = [
+    (&[(b"a", 65536)], false),
+    (&[(b"'", 1), (b"a", 65536), (b"'", 1)], false),
+    (&[(b"'", 1), (b"a", 65535), (b"'.", 1)], true),
+    (&[(b"\"", 1), (b"a", 65536), (b"\".", 1)], true),
+    (&[(b"a", 65535), (b".", 1)], true),
 ];
 
-/// So many `a` between two texts.
-fn long(alloc: Global, before: &str, count: usize, behind: &str) -> Result<Vec<u8>, AllocError> {
-    let mut text = Vec::from_slice(alloc, before.as_bytes())?;
-    for _ in 0..count {
-        text.push(b'a')?;
+/// Whether a text has tokens, or a name that is too long.
+fn fits(alloc: Global, text: &[u8], is: bool) -> bool {
+    match clause_tokens(alloc, text, 0) {
+        Ok(found) => is && found.is_some(),
+        Err(error) => !is && error == LexError::Bad(Fault::NameTooLong, 0),
     }
-    text.extend_from_slice(behind.as_bytes())?;
-    Ok(text)
+}
+
+/// Whether that is so of the text of a row.
+fn is_long(alloc: Global, row: &LongRow) -> Result<bool, AllocError> {
+    let mut text = Vec::new(alloc);
+    push_pieces(&mut text, row.0)?;
+    Ok(fits(alloc, &text, row.1))
 }
 
 // A name, and a quoted name's value, have at most 65,535 bytes; a double-quoted item's value has any number.
 #[test]
 fn long_names(rt: HostRuntime) -> Result<(), Fail> {
-    for (before, count, behind, fits) in LONG_NAMES {
-        let text = long(rt.alloc(), before, count, behind)?;
-        match kinds(rt.alloc(), &text) {
-            Ok(found) => assert!(rt; fits && found.is_some()),
-            Err(error) => { assert!(rt; !fits && error == LexError::Bad(Fault::NameTooLong, 0)) }
-        }
+    for row in LONG_NAMES.iter() {
+        assert!(rt; is_long(rt.alloc(), row)?);
     }
     Ok(())
 }
 
 /// A text, and the value of its first token.
-const VALUES: [(&[u8], &str); 14] = [
+type ValueRow = (&'static [u8], &'static str);
+
+const VALUES: [ValueRow; 14] = [
     (b"ab_1.", "ab_1"),
     (b"Xy.", "Xy"),
     (b"''.", ""),
@@ -250,19 +283,26 @@ const VALUES: [(&[u8], &str); 14] = [
     (b"'a\tb'.", "a\tb"),
 ];
 
+/// Whether the first token of a text has this value.
+fn is_value(alloc: Global, row: &ValueRow) -> Result<bool, LexError> {
+    let (text, wanted) = *row;
+    match clause_tokens(alloc, text, 0)? {
+        Some(clause) => match clause.tokens.first() {
+            Some(token) if has_value(token.kind) => {
+                let value = value_of(alloc, text, token)?;
+                Ok(value.as_str() == wanted)
+            }
+            _ => Ok(false),
+        },
+        None => Ok(false),
+    }
+}
+
 // Escape sequences, doubled quotes and characters past ASCII in values.
 #[test]
 fn values(rt: HostRuntime) -> Result<(), Fail> {
-    for (text, wanted) in VALUES.iter() {
-        let clause = clause_tokens(rt.alloc(), text, 0)?;
-        let clause = clause.expect(&rt, "a clause");
-        match clause.tokens.first() {
-            Some(token) if has_value(token.kind) => {
-                let value = value_of(rt.alloc(), text, token)?;
-                assert_eq!(rt; value.as_str(), *wanted);
-            }
-            _ => assert!(rt; false),
-        }
+    for row in VALUES.iter() {
+        assert!(rt; is_value(rt.alloc(), row)?, "{}", row.1);
     }
     Ok(())
 }
@@ -286,7 +326,7 @@ fn bytes(rt: HostRuntime) {
         let is = (is_symbol(b), is_layout(b), is_control(b));
         assert!(rt; is == (symbol, layout, control), "{b}");
     }
-    assert_eq!(rt; (mark(Quote::Single), mark(Quote::Double)), (b'\'', b'"'));
+    assert!(rt; mark(Quote::Single) == b'\'' && mark(Quote::Double) == b'"');
 }
 
 /// Bytes, and whether they are digits of a base.
@@ -305,23 +345,31 @@ fn digits(rt: HostRuntime) {
     for (base, b, is) in DIGITS {
         assert!(rt; is_digit(base, b) == is, "{b}");
     }
-    assert_eq!(rt; with_digit(Base::Decimal, 12, b'3', 123), Some(123));
-    assert_eq!(rt; with_digit(Base::Decimal, 12, b'3', 122), None);
-    assert_eq!(rt; with_digit(Base::Hexadecimal, 1, b'F', 255), Some(31));
+    assert!(rt;
+        with_digit(Base::Decimal, 12, b'3', 123) == Some(123)
+            && with_digit(Base::Decimal, 12, b'3', 122).is_none()
+            && with_digit(Base::Hexadecimal, 1, b'F', 255) == Some(31)
+    );
 }
 
 // What stands at the start of a text: a mark, a character past ASCII, layout, a run, an item.
 #[test]
 fn starts(rt: HostRuntime) {
-    assert!(rt; begins_with(b"ab", 0, b'a') && !begins_with(b"ab", 0, b'b'));
-    assert_eq!(rt; after_mark(b"\xEF\xBB\xBFa", 0), 3);
-    assert!(rt; is_character(b"\xC3\xA9", 0) && !is_character(b"\xC3", 0));
-    assert_eq!(rt; rest_of_character(b"\xE2\x82\xAC", 0), Some(2));
-    assert!(rt; matches!(gap_at(b" % c\na", 0), Gap::Before(5)));
-    assert!(rt; matches!(gap_at(b" /* a", 0), Gap::Unclosed(1)));
-    assert_eq!(rt; run_end(b"ab_1(", 0, Class::Alphanumeric), 4);
-    assert!(rt; matches!(escape_code(b"x41\\b", 0), Coded::Character('A', 4)));
-    assert!(rt; matches!(quoted_end(b"'a''b'.", 0, Quote::Single), Quoted::Closed(6)));
+    assert!(rt;
+        begins_with(b"ab", 0, b'a')
+            && !begins_with(b"ab", 0, b'b')
+            && after_mark(b"\xEF\xBB\xBFa", 0) == 3
+            && is_character(b"\xC3\xA9", 0)
+            && !is_character(b"\xC3", 0)
+            && rest_of_character(b"\xE2\x82\xAC", 0) == Some(2)
+            && run_end(b"ab_1(", 0, Class::Alphanumeric) == 4
+    );
+    assert!(rt;
+        matches!(gap_at(b" % c\na", 0), Gap::Before(5))
+            && matches!(gap_at(b" /* a", 0), Gap::Unclosed(1))
+            && matches!(escape_code(b"x41\\b", 0), Coded::Character('A', 4))
+            && matches!(quoted_end(b"'a''b'.", 0, Quote::Single), Quoted::Closed(6))
+    );
     let item = item_at(b"Ab(", 0);
     assert!(rt;
         matches!(item, Scanned::Token(token) if token.kind == Kind::Variable && token.end == 2)
