@@ -21,94 +21,98 @@ fn read(
     read_all(alloc, &mut source, limit)
 }
 
-/// What a sink holds after a text was written to it, and whether all of it was.
-fn write(
-    alloc: Global,
-    text: &str,
-    room: usize,
-    fails: &[u64],
-) -> Result<(Vec<u8>, bool), AllocError> {
-    let fails = Vec::from_slice(alloc, fails)?;
-    let mut sink = MemorySink::new(alloc, room, fails)?;
-    let whole = write_all(&mut sink, text.as_bytes()).is_ok();
-    Ok((Vec::from_slice(alloc, sink.bytes())?, whole))
-}
-
 const TEXT: &str = "a.\nb.\nc :- x,";
 
-/// A text, its pieces, and a limit that it keeps.
-const WHOLE: [(&str, usize, u32); 5] = [
-    (TEXT, 1, 13),
-    (TEXT, 4, 13),
-    (TEXT, 13, 14),
-    (TEXT, 5000, 16_777_216),
-    ("", 1, 0),
+/// A text, its pieces, the calls that fail, a limit, and the error, where there is one.
+type ReadRow = (&'static str, usize, &'static [u64], u32, Option<ReadError>);
+
+const READ: [&[ReadRow]; 2] = [
+    &[
+        (TEXT, 1, &[], 13, None),
+        (TEXT, 4, &[], 13, None),
+        (TEXT, 13, &[], 14, None),
+        (TEXT, 5000, &[], 16_777_216, None),
+        ("", 1, &[], 0, None),
+    ],
+    &[
+        (TEXT, 4, &[1], 100, Some(ReadError::ReadFault)),
+        (TEXT, 4, &[2], 100, Some(ReadError::ReadFault)),
+        (TEXT, 4, &[5], 100, Some(ReadError::ReadFault)),
+        (TEXT, 4, &[6], 12, Some(ReadError::TooLong)),
+        (TEXT, 13, &[1], 12, Some(ReadError::ReadFault)),
+        (TEXT, 13, &[2], 12, Some(ReadError::TooLong)),
+        (TEXT, 1, &[1], 0, Some(ReadError::ReadFault)),
+        (TEXT, 1, &[9], 0, Some(ReadError::TooLong)),
+    ],
 ];
 
-#[test]
-fn reads_whole(rt: HostRuntime) -> Result<(), Fail> {
-    for (text, piece, limit) in WHOLE {
-        let bytes = read(rt.alloc(), text, piece, &[], limit)?;
-        assert!(rt; bytes.as_slice() == text.as_bytes(), "piece {piece}");
+/// Whether reading gives the whole text, or has the error.
+fn is_read(alloc: Global, row: &ReadRow) -> bool {
+    let (text, piece, fails, limit, error) = *row;
+    match read(alloc, text, piece, fails, limit) {
+        Ok(bytes) => error.is_none() && bytes.as_slice() == text.as_bytes(),
+        Err(found) => error == Some(found),
     }
-    Ok(())
 }
 
-/// Pieces, the call that fails, a limit, and the error.
-const REFUSED: [(usize, u64, u32, ReadError); 8] = [
-    (4, 1, 100, ReadError::ReadFault),
-    (4, 2, 100, ReadError::ReadFault),
-    (4, 5, 100, ReadError::ReadFault),
-    (4, 6, 12, ReadError::TooLong),
-    (13, 1, 12, ReadError::ReadFault),
-    (13, 2, 12, ReadError::TooLong),
-    (1, 1, 0, ReadError::ReadFault),
-    (1, 9, 0, ReadError::TooLong),
-];
+/// The place of the first row of which that is not so.
+fn first_not_read(alloc: Global, rows: &[ReadRow]) -> Option<usize> {
+    for (place, row) in rows.iter().enumerate() {
+        if !is_read(alloc, row) {
+            return Some(place);
+        }
+    }
+    None
+}
 
+// A text is read whole from its pieces, or refused.
 #[test]
-fn reads_refused(rt: HostRuntime) {
-    for (piece, call, limit, want) in REFUSED {
-        let refused = read(rt.alloc(), TEXT, piece, &[call], limit).err();
-        assert!(rt; refused == Some(want), "piece {piece}, call {call}");
+fn reads(rt: HostRuntime) {
+    for rows in READ {
+        assert_eq!(rt; first_not_read(rt.alloc(), rows), None);
     }
 }
 
 /// The room of a sink, the call that fails, what it then holds, and whether that is all.
-const WRITTEN: [(usize, u64, &str, bool); 4] = [
+type WriteRow = (usize, u64, &'static str, bool);
+
+const WRITTEN: [WriteRow; 4] = [
     (9, 2, "seven\n", true),
     (6, 2, "seven\n", true),
     (4, 9, "seve", false),
     (9, 1, "", false),
 ];
 
+/// Whether a sink holds what its row tells after a text was written to it.
+fn is_written(alloc: Global, row: &WriteRow) -> Result<bool, AllocError> {
+    let (room, call, held, want) = *row;
+    let fails = Vec::from_slice(alloc, &[call])?;
+    let mut sink = MemorySink::new(alloc, room, fails)?;
+    let whole = write_all(&mut sink, b"seven\n").is_ok();
+    Ok(whole == want && sink.bytes() == held.as_bytes())
+}
+
 #[test]
 fn writes(rt: HostRuntime) -> Result<(), Fail> {
-    for (room, call, held, want) in WRITTEN {
-        let (bytes, whole) = write(rt.alloc(), "seven\n", room, &[call])?;
-        assert!(rt;
-            bytes.as_slice() == held.as_bytes() && whole == want,
-            "room {room}"
-        );
+    for row in WRITTEN.iter() {
+        assert!(rt; is_written(rt.alloc(), row)?, "room {}", row.0);
     }
     Ok(())
 }
 
+/// Files, where none is the standard input, and what reading eight bytes of each gives.
+const FILES: [(Option<&str>, Result<usize, Failed>); 4] = [
+    (None, Ok(0)),
+    (Some("/dev/null"), Ok(0)),
+    (Some("/dev/zero"), Ok(8)),
+    (Some("/no/file"), Err(Failed)),
+];
+
 #[test]
 fn reaches_outside(rt: HostRuntime) {
     let mut buf = [0u8; 8];
-    assert_eq!(rt; FileSource::new(&rt, None).read(&mut buf), Ok(0));
-    assert_eq!(rt;
-        FileSource::new(&rt, Some("/dev/null")).read(&mut buf),
-        Ok(0)
-    );
-    assert_eq!(rt;
-        FileSource::new(&rt, Some("/dev/zero")).read(&mut buf),
-        Ok(8)
-    );
-    assert_eq!(rt;
-        FileSource::new(&rt, Some("/no/file")).read(&mut buf),
-        Err(Failed)
-    );
+    for (path, found) in FILES {
+        assert_eq!(rt; FileSource::new(&rt, path).read(&mut buf), found);
+    }
     assert_eq!(rt; write_all(&mut StdSink::new(&rt), b"written\n"), Ok(()));
 }
