@@ -18,57 +18,80 @@ fn number_of(alloc: Global, names: &mut Names, text: &str) -> Result<u32, AllocE
     names.atom(&name)
 }
 
-/// The number of a short name, that of its functor of two arguments, and whether this stands for that functor.
-fn functor_of(
+/// A name that is asked for, its number, and the number of its functor of two arguments, where that is asked for too.
+type Row = (&'static str, u32, Option<u32>);
+
+/// Names that are asked for one after the other.
+const ASKED: [&[Row]; 3] = [
+    &[("a", 0, None), ("b", 1, Some(0))],
+    // Also behind other ones.
+    &[
+        ("a", 0, None),
+        ("", 1, None),
+        ("é", 2, None),
+        ("a", 0, None),
+        ("[]", 3, None),
+    ],
+    // Names of one length that begin and end alike, asked for in turns.
+    &[
+        ("axb", 0, None),
+        ("ayb", 1, None),
+        ("axb", 0, None),
+        ("ayb", 1, None),
+    ],
+];
+
+/// Whether the number of a name's functor of two arguments is this one, which stands for that functor.
+fn is_functor(
     alloc: Global,
     names: &mut Names,
     text: &str,
-) -> Result<(u32, u32, bool), AllocError> {
-    let name = Name::new(alloc, text)?;
-    if name.len() > 65535 {
-        return Err(AllocError);
-    }
-    let name = names.atom(&name)?;
+    number: u32,
+) -> Result<bool, AllocError> {
+    let name = number_of(alloc, names, text)?;
     let functor = Functor { name, arity: 2 };
-    let number = names.functor(functor)?;
-    Ok((name, number, names.functor_of(number) == functor))
+    let found = names.functor(functor)?;
+    Ok(found == number && names.functor_of(found) == functor)
 }
 
-// Two names and a functor.
-#[test]
-fn names_by_number(rt: HostRuntime) -> Result<(), Fail> {
-    let alloc = rt.alloc();
+/// Whether a name, and its functor, have the numbers of a row, and the number stands for that name.
+fn is_row(alloc: Global, names: &mut Names, row: &Row) -> Result<bool, AllocError> {
+    let (text, number, functor) = *row;
+    let found = number_of(alloc, names, text)?;
+    if found != number || names.atom_name(found).as_str() != text {
+        return Ok(false);
+    }
+    match functor {
+        Some(number) => is_functor(alloc, names, text, number),
+        None => Ok(true),
+    }
+}
+
+/// The place of the first row of which that is not so.
+fn first_wrong(
+    alloc: Global,
+    names: &mut Names,
+    rows: &[Row],
+) -> Result<Option<usize>, AllocError> {
+    for (place, row) in rows.iter().enumerate() {
+        if !is_row(alloc, names, row)? {
+            return Ok(Some(place));
+        }
+    }
+    Ok(None)
+}
+
+/// The same of names of which none was asked for before.
+fn first_wrong_of_new(alloc: Global, rows: &[Row]) -> Result<Option<usize>, AllocError> {
     let mut names = Names::new(alloc);
-    assert_eq!(rt; number_of(alloc, &mut names, "a")?, 0);
-    assert!(rt; functor_of(alloc, &mut names, "b")? == (1, 0, true));
-    Ok(())
+    first_wrong(alloc, &mut names, rows)
 }
 
-/// Whether the number of a short name stands for that name.
-fn is_named(alloc: Global, names: &mut Names, text: &str) -> Result<bool, AllocError> {
-    let number = number_of(alloc, names, text)?;
-    Ok(names.atom_name(number).as_str() == text)
-}
-
-// A number stands for its name, also behind other ones.
+// A number stands for its name, and a functor's number for that functor.
 #[test]
 fn numbers_of_names(rt: HostRuntime) -> Result<(), Fail> {
-    let mut names = Names::new(rt.alloc());
-    for text in ["a", "", "é", "a", "[]"] {
-        assert!(rt; is_named(rt.alloc(), &mut names, text)?, "{text}");
-    }
-    Ok(())
-}
-
-/// Names of one length that begin and end alike, asked for in turns, and their numbers.
-const ALIKE: [(&str, u32); 4] = [("axb", 0), ("ayb", 1), ("axb", 0), ("ayb", 1)];
-
-#[test]
-fn names_that_are_alike(rt: HostRuntime) -> Result<(), Fail> {
-    let alloc = rt.alloc();
-    let mut names = Names::new(alloc);
-    for (text, number) in ALIKE {
-        assert!(rt; number_of(alloc, &mut names, text)? == number, "{text}");
+    for rows in ASKED {
+        assert_eq!(rt; first_wrong_of_new(rt.alloc(), rows)?, None);
     }
     Ok(())
 }
