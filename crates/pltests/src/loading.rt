@@ -21,17 +21,50 @@ const COUNTS: [CountRow; 5] = [
     (TEXT, "p", 2, 0, 2),
 ];
 
-/// How many clauses the procedure has and how many goals main has in the program of a text, or why it is none.
-fn counts(alloc: Global, text: &str, procedure: &Indicator) -> Result<(usize, usize), LoadError> {
+/// Whether a term has so many variables.
+fn has_variables(alloc: Global, term: &Term, count: usize) -> bool {
+    match term.variables(alloc) {
+        Ok(variables) => variables.len() == count,
+        Err(_) => false,
+    }
+}
+
+/// Whether the goals are three, with two variables, one and none.
+fn are_in_order(alloc: Global, goals: &[Term]) -> bool {
+    match goals {
+        [first, second, third] => {
+            has_variables(alloc, first, 2)
+                && has_variables(alloc, second, 1)
+                && has_variables(alloc, third, 0)
+        }
+        _ => false,
+    }
+}
+
+/// How many clauses the procedure and how many goals main has in the program of a text, whether these goals are so, and
+/// whether the first batch of its journal is empty; or why the text is no program.
+fn told_of(
+    alloc: Global,
+    text: &str,
+    procedure: &Indicator,
+) -> Result<(usize, usize, bool, bool), LoadError> {
     let program = load(alloc, text.as_bytes())?;
-    Ok((program.clauses_of(procedure).len(), program.goals().len()))
+    Ok((
+        program.clauses_of(procedure).len(),
+        program.goals().len(),
+        are_in_order(alloc, program.goals()),
+        program.first().as_slice().is_empty(),
+    ))
 }
 
 /// Whether the program of a text has so many.
 fn is_counted(alloc: Global, row: &CountRow) -> Result<bool, AllocError> {
     let (text, name, arity, clauses, goals) = *row;
     let procedure = indicator(alloc, name, arity)?;
-    Ok(counts(alloc, text, &procedure) == Ok((clauses, goals)))
+    Ok(match told_of(alloc, text, &procedure) {
+        Ok((count, main, _, _)) => count == clauses && main == goals,
+        Err(_) => false,
+    })
 }
 
 // Clauses of a procedure need not stand together; goals and other directives are goals of main.
@@ -120,40 +153,12 @@ fn refusals(rt: HostRuntime) {
     }
 }
 
-/// Whether a term has so many variables.
-fn has_variables(alloc: Global, term: &Term, count: usize) -> bool {
-    match term.variables(alloc) {
-        Ok(variables) => variables.len() == count,
-        Err(_) => false,
-    }
-}
-
-/// Whether the goals are three, with two variables, one and none.
-fn are_in_order(alloc: Global, goals: &[Term]) -> bool {
-    match goals {
-        [first, second, third] => {
-            has_variables(alloc, first, 2)
-                && has_variables(alloc, second, 1)
-                && has_variables(alloc, third, 0)
-        }
-        _ => false,
-    }
-}
-
-/// Whether the goals of a text are so, and whether the first batch of its journal is empty.
-fn goals_of(alloc: Global, text: &[u8]) -> Result<(bool, bool), LoadError> {
-    let program = load(alloc, text)?;
-    Ok((
-        are_in_order(alloc, program.goals()),
-        program.first().as_slice().is_empty(),
-    ))
-}
-
 // Main's goals stand in text order, each with its own variables.
 #[test]
 fn goals_in_order(rt: HostRuntime) -> Result<(), Fail> {
-    let text = b":- a(X, Y). :- initialization(b(Y)). :- c.";
-    assert!(rt; goals_of(rt.alloc(), text)? == (true, true));
+    let procedure = indicator(rt.alloc(), "a", 2)?;
+    let text = ":- a(X, Y). :- initialization(b(Y)). :- c.";
+    assert!(rt; told_of(rt.alloc(), text, &procedure)? == (0, 3, true, true));
     Ok(())
 }
 
