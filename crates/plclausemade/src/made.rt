@@ -65,7 +65,7 @@ fn argument(alloc: Global, first: First) -> Result<Term, TermError> {
 }
 
 /// The clause of p/1 with this first argument and the body true.
-fn fact(alloc: Global, first: First) -> Result<Clause, TermError> {
+pub fn fact(alloc: Global, first: First) -> Result<Clause, TermError> {
     let head = compound(alloc, "p", argument(alloc, first)?)?;
     clause_of(alloc, &head, "true")
 }
@@ -90,7 +90,7 @@ pub enum Change {
 }
 
 /// The update that does this.
-fn update(alloc: Global, change: Change) -> Result<Update, TermError> {
+pub fn update(alloc: Global, change: Change) -> Result<Update, TermError> {
     match change {
         Change::First(body) => Ok(Update::First(clause(alloc, body)?)),
         Change::Last(body) => Ok(Update::Last(clause(alloc, body)?)),
@@ -125,5 +125,5 @@ pub fn put_updates(
 pub fn batch(alloc: Global, changes: &[Change]) -> Result<Batch, TermError> {
     let mut updates = Vec::new(alloc);
     put_updates(alloc, &mut updates, changes)?;
-    Ok(Batch::new(updates))
+    Ok(Batch::new(alloc, updates))
 }

@@ -1,10 +1,12 @@
 //! Updates of the database, and batches of them.
 ghost use Rattle.std.specs.Prelude.{◌≡◌, ◌∷◌, [], IfOk};
+ghost use Rattle.plevent.specs.Batches.{updates_held};
 
 use plclause::clause::Clause;
 use plterm::indicator::Indicator;
 use std::alloc::{AllocError, Global};
 use std::marker::Model;
+use std::sync::Arc;
 
 /// The name of a clause: update `number` of the batch at `place` of the journal made it.
 #[derive(Clone, Copy, PartialEq, Eq, Hash)]
@@ -61,11 +63,13 @@ impl Update {
     }
 }
 
-/// The updates of a batch: mostly it is one.
+/// The updates of a batch: mostly it is one, and of more, copies of the batch share them.
 #[derive(Drop)]
 pub(crate) enum Held {
     One(Update),
-    Many(Vec<Update>),
+    Shared(Arc<Vec<Update>>),
+    /// There was no memory to share them.
+    Alone(Vec<Update>),
 }
 
 /// Updates that are made at once, in their order.
@@ -90,13 +94,13 @@ impl Model for Batch {
 
 impl Batch {
     /// The batch of these updates.
-    pub fn new(updates: Vec<Update>) -> Batch
+    pub fn new(alloc: Global, updates: Vec<Update>) -> Batch
         ensures { result ≡ updates.items }
     {
         let mut updates = updates;
         if updates.len() != 1 {
             return Batch {
-                held: Held::Many(updates),
+                held: shared(alloc, updates),
             };
         }
         match updates.pop() {
@@ -120,21 +124,36 @@ impl Batch {
     {
         match &self.held {
             Held::One(update) => std::array::from_ref(update).as_slice(),
-            Held::Many(updates) => updates.as_slice(),
+            Held::Shared(updates) => (&**updates).as_slice(),
+            Held::Alone(updates) => updates.as_slice(),
         }
     }
 
-    /// The same batch again; it shares its clauses.
+    /// The same batch again. It shares its updates, or where it is one, its clause: no update is copied, unless there was no memory to share them.
     pub fn copied(&self, alloc: Global) -> Result<Batch, AllocError>
         ensures { IfOk result (λ b. b ≡ self.now) }
     {
         match &self.held {
             Held::One(update) => Ok(Batch::of(update.copied()?)),
-            Held::Many(updates) => {
-                let held = Held::Many(copied_all(alloc, updates)?);
+            Held::Shared(updates) => {
+                let held = Held::Shared(Arc::try_clone(updates)?);
+                Ok(Batch { held })
+            }
+            Held::Alone(updates) => {
+                let held = Held::Alone(copied_all(alloc, updates)?);
                 Ok(Batch { held })
             }
         }
+    }
+}
+
+/// Updates that copies of a batch are to share, where there is memory for it.
+fn shared(alloc: Global, updates: Vec<Update>) -> Held
+    ensures { updates_held result ≡ updates.items }
+{
+    match Arc::new(alloc, updates) {
+        Ok(updates) => Held::Shared(updates),
+        Err(failed) => Held::Alone(failed.value),
     }
 }
 

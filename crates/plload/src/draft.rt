@@ -113,7 +113,13 @@ impl Draft {
         };
         let mut first = declares(alloc, &declared)?;
         let procedures = part(alloc, names, clauses, &declared, &mut first)?;
-        Ok(Program::new(procedures, goals, Batch::new(first), settings, counts))
+        Ok(Program::new(
+            procedures,
+            goals,
+            Batch::new(alloc, first),
+            settings,
+            counts,
+        ))
     }
 }
 

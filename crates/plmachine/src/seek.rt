@@ -86,7 +86,7 @@ impl Machine {
             self.go_on(rest);
             return Ok(());
         }
-        let request = Request::Publish(Batch::new(updates));
+        let request = Request::Publish(Batch::new(self.alloc, updates));
         self.ask(Question::Await(request, Then::GoesOn), rest);
         Ok(())
     }

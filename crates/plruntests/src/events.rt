@@ -40,7 +40,7 @@ fn put_one_of_each(alloc: Global, updates: &mut Vec<Update>) -> Result<(), TermE
 fn one_of_each(alloc: Global) -> Result<Batch, TermError> {
     let mut updates = Vec::new(alloc);
     put_one_of_each(alloc, &mut updates)?;
-    Ok(Batch::new(updates))
+    Ok(Batch::new(alloc, updates))
 }
 
 /// Whether these are one of each kind, as they were made.

@@ -56,7 +56,7 @@ fn put_end(alloc: Global, entries: &mut Vec<Entry>, word: &str) -> Result<(), Al
 
 /// Adds the program, and the start and the end of main.
 fn put_acts(alloc: Global, entries: &mut Vec<Entry>, word: &str) -> Result<(), AllocError> {
-    put_act(entries, 0, Act::Batch(Batch::new(Vec::new(alloc))))?;
+    put_act(entries, 0, Act::Batch(Batch::new(alloc, Vec::new(alloc))))?;
     put_act(entries, 1, Act::Start)?;
     put_end(alloc, entries, word)
 }

@@ -68,7 +68,7 @@ fn one_clause(alloc: Global) -> Result<Batch, TermError> {
 
 /// A batch of nothing.
 fn nothing(alloc: Global) -> Batch {
-    Batch::new(Vec::new(alloc))
+    Batch::new(alloc, Vec::new(alloc))
 }
 
 fn request_of(alloc: Global, asked: Asked) -> Result<Request, TermError> {

@@ -166,7 +166,7 @@ impl Overlay {
         self.draft = Draft::new(self.alloc);
         let updates = replace(&mut self.updates, Vec::new(self.alloc));
         if kept {
-            return published(updates);
+            return published(self.alloc, updates);
         }
         Ended::Dropped
     }
@@ -274,13 +274,13 @@ fn draft_name(number: u64) -> ClauseName
 }
 
 /// What the updates come to, once the outermost transaction has ended with success.
-fn published(updates: Vec<Update>) -> Ended
+fn published(alloc: Global, updates: Vec<Update>) -> Ended
     ensures { result ≡ published updates.items }
 {
     if updates.is_empty() {
         return Ended::Nothing;
     }
-    Ended::Publish(Batch::new(updates))
+    Ended::Publish(Batch::new(alloc, updates))
 }
 
 /// How many updates there are before the first that puts a clause before all others, once the last one of these is made.
