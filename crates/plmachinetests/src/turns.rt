@@ -150,12 +150,27 @@ fn numbers(alloc: Global, places: &[JournalPlace]) -> Result<Vec<u64>, AllocErro
     Ok(numbers)
 }
 
+/// How many places of answers a search tells, and how many bytes it wrote.
+fn counts(going: &Going) -> (usize, usize) {
+    (going.solver.places().len(), going.solver.output().len())
+}
+
+/// The places of the answers and what was written, which are taken: as many as the search told, and none are left.
+fn taken(alloc: Global, going: &mut Going) -> Result<(Vec<u64>, String), Fail> {
+    let told = counts(going);
+    let places = going.solver.take_places();
+    let output = going.solver.take_output();
+    if told != (places.len(), output.len()) || counts(going) != (0, 0) {
+        return Err("not all was taken".into());
+    }
+    Ok((numbers(alloc, &places)?, String::from_utf8(output)?))
+}
+
 /// An end, the steps that were taken, the places of the answers, and what was written.
-fn told(alloc: Global, going: &Going, end: &ThreadEnd) -> Result<String, Fail> {
+fn told(alloc: Global, going: &mut Going, end: &ThreadEnd) -> Result<String, Fail> {
     let end = word(alloc, end)?;
     let steps = going.solver.steps();
-    let places = numbers(alloc, going.solver.places())?;
-    let output = String::from_utf8(Vec::from_slice(alloc, going.solver.output())?)?;
+    let (places, output) = taken(alloc, going)?;
     Ok(format!(in alloc; "{end} {steps} {places:?} {output}")?)
 }
 

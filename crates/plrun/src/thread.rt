@@ -136,16 +136,16 @@ fn tell(
 fn finish(
     alloc: Global,
     world: &mut World,
-    running: &Running,
+    running: &mut Running,
     end: ThreadEnd,
 ) -> Result<Run, AllocError>
     requires { IsServing world.old }
-    ensures journal { OnOk result (world.new.journal ≡ told end running.now.thread world.old.journal) }
-    ensures run { IfOk result (λ run. run ≡ run_now world.old.journal running.now end) }
+    ensures journal { OnOk result (world.new.journal ≡ told end running.old.thread world.old.journal) }
+    ensures run { IfOk result (λ run. run ≡ run_now world.old.journal running.old end) }
     ensures serves { IsServing world.new }
 {
-    let mut places = Vec::from_slice(alloc, running.solver.places())?;
-    let output = Vec::from_slice(alloc, running.solver.output())?;
+    let mut places = running.solver.take_places();
+    let output = running.solver.take_output();
     tell(alloc, world, running.thread, &end, &mut places)?;
     Ok(Run {
         thread: running.thread,

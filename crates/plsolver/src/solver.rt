@@ -22,6 +22,7 @@ use plprogram::program::Program;
 use plstore::{Found, Query};
 use std::alloc::{AllocError, Global};
 use std::marker::Model;
+use std::mem::replace;
 
 /// The search of a thread, which can stop and go on. It goes on with the program that it was begun with.
 #[derive(Drop)]
@@ -82,6 +83,26 @@ impl Solver {
         ensures { result.now ≡ self.now.places.items }
     {
         &self.progress.places
+    }
+
+    /// The bytes written so far, which it has no more.
+    pub fn take_output(&mut self) -> Vec<u8>
+        ensures is { result.items ≡ self.old.machine.out.items }
+        ensures left { self.new.machine.out.items ≡ [] }
+        ensures rest { self.new ≡ record self.old { machine = record self.old.machine { out = self.new.machine.out } } }
+    {
+        let alloc = self.progress.machine.alloc;
+        replace(&mut self.progress.machine.out, Vec::new(alloc))
+    }
+
+    /// The places of the answers taken so far, which it has no more.
+    pub fn take_places(&mut self) -> Vec<JournalPlace>
+        ensures is { result.items ≡ self.old.places.items }
+        ensures left { self.new.places.items ≡ [] }
+        ensures rest { self.new ≡ record self.old { places = self.new.places } }
+    {
+        let alloc = self.progress.machine.alloc;
+        replace(&mut self.progress.places, Vec::new(alloc))
     }
 
     /// The steps taken so far.
