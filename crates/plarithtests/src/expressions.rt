@@ -2,7 +2,7 @@
 ghost use Rattle.std.specs.Prelude.{IfOk};
 ghost use Rattle.plterm.specs.Variables.{AllBelow};
 
-use crate::made::{one, result, two};
+use crate::operations::{one, result, two};
 use plterm::name::Name;
 use plterm::term::Term;
 use std::alloc::{AllocError, Global};

@@ -3,7 +3,7 @@ ghost use Rattle.std.specs.Prelude.{IfOk, OnOk};
 ghost use Rattle.plterm.specs.Variables.{AllBelow};
 ghost use Rattle.plcells.specs.Store.{IsValue};
 
-use crate::made::{one, shown, two};
+use crate::operations::{one, shown, two};
 use plarith::evaluate::evaluate;
 use plarith::operand::{Opened, Operand};
 use plarith::value::open_value;

@@ -1,5 +1,6 @@
 //! Records that are linked with those of their class (plrecords).
-use crate::made::{fact, indicator, key, name};
+use crate::made::{key, name};
+use plclausemade::made::{First, fact, indicator};
 use plrecords::ends::{Ends, ends_of, restore_ends, set_ends};
 use plrecords::leap::near;
 use plrecords::links::{Added, Links, add};
@@ -174,11 +175,11 @@ fn parts_of_sides(rt: HostRuntime) {
 }
 
 /// The first argument of a goal, that of a fact, and whether the slot of the goal's key is that of the fact.
-const SLOTS: [(Option<i64>, Option<i64>, bool); 4] = [
-    (Some(1), Some(1), true),
-    (Some(1), Some(2), false),
-    (None, None, true),
-    (Some(1), None, false),
+const SLOTS: [(Option<i64>, First, bool); 4] = [
+    (Some(1), First::Int(1), true),
+    (Some(1), First::Int(2), false),
+    (None, First::Variable, true),
+    (Some(1), First::Variable, false),
 ];
 
 /// The slots of p/1.
@@ -187,7 +188,7 @@ fn slots(alloc: Global) -> Result<Slots, AllocError> {
 }
 
 /// Whether the slot of the goal's key is that of the fact.
-fn is_slot(alloc: Global, goal: Option<i64>, first: Option<i64>) -> Result<bool, TermError> {
+fn is_slot(alloc: Global, goal: Option<i64>, first: First) -> Result<bool, TermError> {
     let slots = slots(alloc)?;
     let fact = fact(alloc, first)?;
     Ok(slots.of_key(&key(goal)) == slots.of_head(&fact.head().root()))

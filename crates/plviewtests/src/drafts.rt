@@ -2,7 +2,8 @@
 ghost use Rattle.std.specs.Prelude.{◌≡◌, ◌+◌, ◌<◌, ◌^◌, OnOk};
 ghost use Rattle.plstore.specs.Cut.{cut};
 
-use crate::made::{Change, indicator, key, name, update};
+use crate::made::{key, name};
+use plclausemade::made::{Change, First, indicator, update};
 use plevent::{ClauseName, Update};
 use plrecords::Cursor;
 use plstore::Draft;
@@ -12,9 +13,9 @@ use std::test::Fail;
 
 /// What is done, each at the place that its row has here, from 0.
 const CHANGES: [Change; 5] = [
-    Change::Last(Some(1)),
-    Change::First(Some(2)),
-    Change::Last(None),
+    Change::LastFact(First::Int(1)),
+    Change::FirstFact(First::Int(2)),
+    Change::LastFact(First::Variable),
     Change::Erase(0, 0),
     Change::Declare(2),
 ];

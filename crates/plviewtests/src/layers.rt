@@ -2,7 +2,8 @@
 ghost use Rattle.std.specs.Prelude.{◌≡◌, true, false};
 ghost use Rattle.pltx.specs.Own.{any_open};
 
-use crate::made::{Change, name, update};
+use crate::made::name;
+use plclausemade::made::{Change, First, update};
 use plevent::{JournalPlace, Update};
 use plterm::error::TermError;
 use pltx::{Ended, Erasure, Isolation};
@@ -126,12 +127,16 @@ const MOVES: [(Move, &str, Stands); 16] = [
         (Some(9), Some((9, 0))),
     ),
     (
-        Move::MakeOne(Change::First(Some(1))),
+        Move::MakeOne(Change::FirstFact(First::Int(1))),
         "made",
         (Some(9), Some((9, 1))),
     ),
     (
-        Move::Make(&[Change::Last(None), Change::Declare(2), Change::EraseOwn(0)]),
+        Move::Make(&[
+            Change::LastFact(First::Variable),
+            Change::Declare(2),
+            Change::EraseOwn(0),
+        ]),
         "made",
         (Some(9), Some((9, 4))),
     ),
@@ -147,7 +152,7 @@ const MOVES: [(Move, &str, Stands); 16] = [
         (Some(9), Some((9, 4))),
     ),
     (
-        Move::MakeOne(Change::Last(Some(3))),
+        Move::MakeOne(Change::LastFact(First::Int(3))),
         "made",
         (Some(9), Some((9, 5))),
     ),

@@ -1,6 +1,7 @@
 //! What a view tells without a walk (plviews).
-use crate::made::{indicator, name};
+use crate::made::name;
 use crate::owns::make_eight;
+use plclausemade::made::indicator;
 use plevent::ClauseName;
 use plrecords::Cursor;
 use plterm::error::TermError;

@@ -2,7 +2,8 @@
 ghost use Rattle.std.specs.Prelude.{OnOk};
 ghost use Rattle.pltx.specs.Own.{IsAddition, IsOpen};
 
-use crate::made::{Change, indicator, key, name, update};
+use crate::made::{key, name};
+use plclausemade::made::{Change, First, indicator, update};
 use plevent::{JournalPlace, Update};
 use plterm::error::TermError;
 use pltx::{Isolation, Own, OwnCursor, Target};
@@ -12,13 +13,13 @@ use std::test::Fail;
 /// The updates of a transaction, by their numbers. Those of p/1 that are put in front are 2 and 3, those behind all others 0, 4
 /// and 6.
 const CHANGES: [Change; 8] = [
-    Change::Last(Some(1)),
+    Change::LastFact(First::Int(1)),
     Change::Declare(3),
-    Change::First(Some(2)),
-    Change::First(None),
-    Change::Last(Some(2)),
+    Change::FirstFact(First::Int(2)),
+    Change::FirstFact(First::Variable),
+    Change::LastFact(First::Int(2)),
     Change::EraseOwn(2),
-    Change::Last(None),
+    Change::LastFact(First::Variable),
     Change::Erase(3, 1),
 ];
 

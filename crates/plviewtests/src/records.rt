@@ -1,5 +1,6 @@
 //! Clauses that are kept with the places of their batches (plrecords).
-use crate::made::{fact, name};
+use crate::made::name;
+use plclausemade::made::{First, fact};
 use plrecords::Record;
 use plterm::error::TermError;
 use plterm::indicator::Indicator;
@@ -9,7 +10,7 @@ use std::test::Fail;
 
 /// The fact p(1), made at 3, and erased at a place, if it was.
 fn record(alloc: Global, erased: Option<u64>) -> Result<Record, TermError> {
-    let clause = fact(alloc, Some(1))?;
+    let clause = fact(alloc, First::Int(1))?;
     Ok(Record {
         name: name(3, 0),
         clause,

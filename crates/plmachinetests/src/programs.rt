@@ -155,7 +155,7 @@ fn chars(alloc: Global) -> Result<Settings, AllocError> {
 
 /// The program of procedures without goals, of three clauses and one directive.
 fn program_of(alloc: Global, procedures: Procedures, settings: Settings) -> Program {
-    let first = Batch::new(Vec::new(alloc));
+    let first = Batch::new(alloc, Vec::new(alloc));
     let counts = Counts {
         clauses: 3,
         directives: 1,

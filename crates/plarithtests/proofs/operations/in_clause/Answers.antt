@@ -4,7 +4,7 @@ use Rattle.plcells.specs.Store.{Store}
 use Rattle.plenv.specs.Env.{Env}
 use Rattle.plenv.specs.Rows.{tree_at}
 use Rattle.plhead.proofs.Trees.{row-spread}
-use Rattle.plarithtests.proofs.made.in_clause.Goals as goal
+use Rattle.plarithtests.proofs.operations.in_clause.Goals as goal
 
 pub eval_node-requires-clause-covers : goal.eval_node-requires-clause-covers
 eval_node-requires-clause-covers c =
