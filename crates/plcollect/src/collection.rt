@@ -152,11 +152,15 @@ fn place_of(held: &[Held], level: Level) -> usize
     held.partition_point(|h| h.level < level)
 }
 
-/// Where the copies for handlers up to a level end.
+/// Where the copies for handlers up to a level end. Mostly that is behind all.
 fn place_behind(held: &[Held], level: Level) -> usize
     requires { IsNonDecreasingBy (λ (h : OfHeld). h.level) held.now }
     ensures within { result ≤ length held.now }
     ensures point { IsPartitionPoint (λ (h : OfHeld). nat_le h.level level ≡ true) (λ (h : OfHeld). nat_le h.level level ≡ false) held.now result }
 {
+    let count = held.len();
+    if count > 0 && held[count - 1].level <= level {
+        return count;
+    }
     held.partition_point(|h| h.level <= level)
 }
