@@ -1,15 +1,35 @@
 -- Terms that are apart.
-use Rattle.std.proofs.Common.{◌≡◌, ℕ, ◌+◌, Bool, true, false, not, IsTrue, List, ◌∷◌, None, sym, ◌∙◌}
-use Rattle.plterm.specs.Tree.{Tree, Trees, var, int, atom, compound, trees}
-use Rattle.plsubst.specs.Subst.{bind, shift}
+use Rattle.std.proofs.Common.{◌≡◌, ℕ, ◌+◌, Bool, true, false, not, IsTrue, List, ◌∷◌, None, refl, sym, ap, ap₂, ◌∙◌}
+use Rattle.plterm.specs.Tree.{Tree, Trees, var, int, atom, compound, none, more, trees}
+use Rattle.plterm.specs.Variables.{all_renamed, copied, place, renamed, variables}
+use Rattle.plsubst.specs.Subst.{bind, bind_all, shift}
 use Rattle.plsubst.specs.Unify.{unify}
-use Rattle.plsubst.proofs.Unify.{bind-bind, int≢compound, int≢atom, atom≢compound, more-head, more-tail, compound-parts, atom-name, int-number}
+use Rattle.plsubst.proofs.Unify.{bind-bind, int≢compound, int≢atom, atom≢compound, more-head, more-tail, compound-parts, compound-name, atom-name, int-number}
 use Rattle.plsubst.proofs.UnifyUnique.{unify-none}
 use Rattle.plbind.specs.Apart.{AreApart, ListsApart}
 
 -- they have no unifier, be it that the variables of one come behind those of the other
 pub apart-none : (a b : Tree) (n : ℕ) → AreApart a b → unify a (shift n b) ≡ None
 apart-none a b n apart = unify-none a (shift n b) (λ τ e. apart τ (λ x. bind τ (var (n + x))) (e ∙ bind-bind τ (λ x. var (n + x)) b))
+
+mutual
+  unfolding bind
+
+  bind-renamed : (σ : ℕ → Tree) (f : ℕ → ℕ) (t : Tree) → bind σ (renamed f t) ≡ bind (λ v. σ (f v)) t
+  bind-renamed σ f (var x) = refl
+  bind-renamed σ f (int i) = refl
+  bind-renamed σ f (atom s) = refl
+  bind-renamed σ f (compound s ts) = ap (compound s) (bind-all_renamed σ f ts)
+
+  bind-all_renamed : (σ : ℕ → Tree) (f : ℕ → ℕ) (ts : Trees) → bind_all σ (all_renamed f ts) ≡ bind_all (λ v. σ (f v)) ts
+  bind-all_renamed σ f none = refl
+  bind-all_renamed σ f (more t ts) = ap₂ more (bind-renamed σ f t) (bind-all_renamed σ f ts)
+
+-- nor have one and a copy of the other
+pub apart-copied : (a b : Tree) (n : ℕ) → AreApart a b → unify a (copied n b) ≡ None
+apart-copied a b n apart =
+    let at : ℕ → ℕ = λ v. n + place v (variables b) in
+    unify-none a (copied n b) (λ τ e. apart τ (λ v. τ (at v)) (e ∙ bind-renamed τ at b))
 
 -- ---- atoms and integers
 pub atoms-apart : (f g : List ℕ) → (f ≡ g → ⊥) → AreApart (atom f) (atom g)
@@ -44,6 +64,10 @@ compound-atom f g ts σ τ e = atom≢compound (sym e)
 pub compound-int : (f : List ℕ) (ts : Trees) (j : _) → AreApart (compound f ts) (int j)
 unfolding bind
 compound-int f ts j σ τ e = int≢compound (sym e)
+
+pub names-apart : (f g : List ℕ) (ts us : Trees) → (f ≡ g → ⊥) → AreApart (compound f ts) (compound g us)
+unfolding bind
+names-apart f g ts us differ σ τ e = differ (compound-name e)
 
 pub compounds-apart : (f g : List ℕ) (ts us : List Tree) → ListsApart ts us → AreApart (compound f (trees ts)) (compound g (trees us))
 unfolding bind

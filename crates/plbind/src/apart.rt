@@ -34,13 +34,20 @@ fn is_integer_apart(number: i64, term: &TermRef<'_>) -> bool
     }
 }
 
-/// Whether a compound is apart from a term, as far as its name and its arguments need not be looked at.
+/// Whether a compound is apart from a term, as far as its arguments need not be looked at.
 fn is_compound_apart(heap: &Heap, p: CellId, term: &TermRef<'_>) -> bool
     requires { IsValue heap.now (StrCell p) }
     ensures { result ≡ true → AreApart (value heap.now (StrCell p)) term.now }
 {
-    let _ = heap.block(p);
-    matches!(term.shape(), Shape::Atom(_) | Shape::Int(_))
+    let (f, _) = heap.block(p);
+    match term.shape() {
+        Shape::Var(_) => false,
+        Shape::Compound(name, _) => {
+            let functor = heap.names().functor_of(f);
+            !heap.names().atom_name(functor.name).is_same(name)
+        }
+        Shape::Atom(_) | Shape::Int(_) => true,
+    }
 }
 
 /// Whether a value where references end is apart from a term, as far as its arguments need not be looked at.
@@ -88,4 +95,13 @@ pub fn are_apart(heap: &Heap, v: Cell, term: &TermRef<'_>) -> bool
     };
     let (_, count) = heap.block(p);
     are_arguments_apart(heap, p, count, args)
+}
+
+/// Whether a value and a term are seen to be apart, as far as the arguments of their arguments need not be looked at: then the two have no
+/// unifier.
+pub fn is_apart(heap: &Heap, v: &Cell, term: &TermRef<'_>) -> bool
+    requires { IsValue heap.now v.now }
+    ensures { result ≡ true → AreApart (value heap.now v.now) term.now }
+{
+    is_root_apart(heap, heap.root(*v), term) || are_apart(heap, *v, term)
 }

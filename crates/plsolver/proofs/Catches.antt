@@ -169,8 +169,7 @@ handler-stays s t same has = subst (λ fs. BeginsWith IsHandler (reverse fs)) (s
 
 -- the ball at its catcher
 module _ (P : Program) (v : Views) (s : Progress) (o : Outcome) (ball : Tree) (found : List ℕ) (at : s.machine.mode ≡ modes.Back o) (carries : result_of o ≡ Throw ball found) (st : State) (k : Handling) (basis : st.basis ≡ s.machine.stack.basis)
-    (same : (db : Database) → cases_of db st ≡ cases_of db s.machine.stack) (x : Catcher) (here : AtHandler st (handlers.Catch x) k.list) (active : has (depth_of s.machine - 1) found ≡ true) (put : State) (grew : Extends st put) (b : Cell)
-    (copy : value put.env.heap b ≡ copied st.env.count ball) where
+    (same : (db : Database) → cases_of db st ≡ cases_of db s.machine.stack) (x : Catcher) (here : AtHandler st (handlers.Catch x) k.list) (active : has (depth_of s.machine - 1) found ≡ true) where
   -- the handler that the frame stands for
   abbrev catcher : Tree
   catcher = value st.env.heap x.catcher
@@ -186,40 +185,47 @@ module _ (P : Program) (v : Views) (s : Progress) (o : Outcome) (ball : Tree) (f
       let d : depth_of s.machine - 1 ≡ deeper (here.below (db_in P v s.machine)) 0 = omega (arith, depth-in (db_in P v s.machine) s.machine.stack, ap (λ cs. deeper cs 0) cases-are) in
       subst (λ d. has d found ≡ true) d active
 
-  sides : unify catcher (copied st.env.count ball) ≡ unify (value put.env.heap x.catcher) (value put.env.heap b)
-  sides = ap₂ unify (sym (grew.values x.catcher here.there.0).1) (sym copy)
-
-  pub catches-other : (last : State) → last.basis ≡ put.basis → unify (value put.env.heap x.catcher) (value put.env.heap b) ≡ None →
-      ((db : Database) (h : Case) (below : List Case) → cases_of db put ≡ h ∷ below → cases_of db last ≡ below) → QuietIn P v s (at_stack s last)
-  catches-other last stays none closed =
-      quiet-other P v s o ball found at carries catcher recovery (goals_of st k.list) st.env.count (here.below (db_in P v s.machine)) cases-are is-active last (stays ∙ grew.basis ∙ basis) (sides ∙ none)
+  -- it is another one: the catcher has no unifier with a copy of it
+  pub catches-none : (last : State) → last.basis ≡ st.basis → unify catcher (copied st.env.count ball) ≡ None →
+      ((db : Database) (h : Case) (below : List Case) → cases_of db st ≡ h ∷ below → cases_of db last ≡ below) → QuietIn P v s (at_stack s last)
+  catches-none last stays none closed =
+      quiet-other P v s o ball found at carries catcher recovery (goals_of st k.list) st.env.count (here.below (db_in P v s.machine)) cases-are is-active last (stays ∙ basis) none
       (behind (db_in P v s.machine)) (λ ls db named. subst (AreNamed ls) (sym (behind db)) (subst (AreNamed ls) (sym (same db) ∙ here.cases db) named).1)
     where
       behind : (db : Database) → cases_of db last ≡ here.below db
-      behind db = closed db _ (here.below db) (grew.cases db ∙ here.cases db)
+      behind db = closed db _ (here.below db) (here.cases db)
 
-  module _ (count : put.env.count ≡ st.env.count + length (variables ball)) (last : State) (u : Unifies put last x.catcher b) where
-    pub recovery-there : IsValue last.env.heap x.recovery
-    recovery-there = (u.values x.recovery (grew.values x.recovery here.there.1).0).0
+  -- it was put
+  module _ (put : State) (grew : Extends st put) (b : Cell) (copy : value put.env.heap b ≡ copied st.env.count ball) where
+    sides : unify catcher (copied st.env.count ball) ≡ unify (value put.env.heap x.catcher) (value put.env.heap b)
+    sides = ap₂ unify (sym (grew.values x.catcher here.there.0).1) (sym copy)
 
-    pub list-there : IsList last k.list
-    list-there = (u.lists k.list (grew.lists k.list here.list_there).0).0
+    pub catches-other : (last : State) → last.basis ≡ put.basis → unify (value put.env.heap x.catcher) (value put.env.heap b) ≡ None →
+        ((db : Database) (h : Case) (below : List Case) → cases_of db put ≡ h ∷ below → cases_of db last ≡ below) → QuietIn P v s (at_stack s last)
+    catches-other last stays none closed = catches-none last (stays ∙ grew.basis) (sides ∙ none) (λ db h below was. closed db h below (grew.cases db ∙ was))
 
-    pub handler-there : HasHandler last
-    handler-there = handler-stays st last (u.frames ∙ grew.frames) here.has
+    module _ (count : put.env.count ≡ st.env.count + length (variables ball)) (last : State) (u : Unifies put last x.catcher b) where
+      pub recovery-there : IsValue last.env.heap x.recovery
+      recovery-there = (u.values x.recovery (grew.values x.recovery here.there.1).0).0
 
-    pub catches-it : (new : Progress) → Recovered P (at_stack s last) new x.recovery k.list → QuietIn P v s new
-    catches-it new did =
-        let list = grew.lists k.list here.list_there in
-        let r = grew.values x.recovery here.there.1 in
-        quiet-caught P v s o ball found at carries catcher recovery (goals_of st k.list) st.env.count (here.below (db_in P v s.machine)) cases-are is-active
-        last new u.unifier x.recovery k.list (catching catcher recovery (goals_of st k.list) st.env.count) (u.basis ∙ grew.basis ∙ basis)
-        (sides ∙ u.is)
-        ((u.values x.recovery r.0).1 ∙ ap (bind u.unifier) r.1)
-        ((u.lists k.list list.0).1 ∙ ap (bind_goals u.unifier) list.1)
-        (u.count ∙ count)
-        (u.cases (db_in P v s.machine) ∙ grew.cases (db_in P v s.machine) ∙ here.cases (db_in P v s.machine))
-        did
+      pub list-there : IsList last k.list
+      list-there = (u.lists k.list (grew.lists k.list here.list_there).0).0
+
+      pub handler-there : HasHandler last
+      handler-there = handler-stays st last (u.frames ∙ grew.frames) here.has
+
+      pub catches-it : (new : Progress) → Recovered P (at_stack s last) new x.recovery k.list → QuietIn P v s new
+      catches-it new did =
+          let list = grew.lists k.list here.list_there in
+          let r = grew.values x.recovery here.there.1 in
+          quiet-caught P v s o ball found at carries catcher recovery (goals_of st k.list) st.env.count (here.below (db_in P v s.machine)) cases-are is-active
+          last new u.unifier x.recovery k.list (catching catcher recovery (goals_of st k.list) st.env.count) (u.basis ∙ grew.basis ∙ basis)
+          (sides ∙ u.is)
+          ((u.values x.recovery r.0).1 ∙ ap (bind u.unifier) r.1)
+          ((u.lists k.list list.0).1 ∙ ap (bind_goals u.unifier) list.1)
+          (u.count ∙ count)
+          (u.cases (db_in P v s.machine) ∙ grew.cases (db_in P v s.machine) ∙ here.cases (db_in P v s.machine))
+          did
 
 -- what stays from where it stayed
 pub stays-after : (P : Program) (s t new : Progress) → Stays P s t → Stays P t new → Stays P s new

@@ -11,6 +11,7 @@ ghost use Rattle.plmachine.specs.Machine.{depth_of};
 ghost use Rattle.plsolver.specs.Solver.{IsBack, Stays, Quiet, throws_to, Recovered, Rethrown};
 
 use crate::progress::Progress;
+use plbind::apart::is_apart;
 use plcells::cell::Cell;
 use plerror::error;
 use pllinks::item::Portion;
@@ -23,7 +24,7 @@ use plterm::term::Term;
 use std::alloc::AllocError;
 
 impl Progress {
-    /// The ball that is carried, at the innermost case, which is a catcher that is active.
+    /// The ball that is carried, at the innermost case, which is a catcher that is active. It is not copied where it is seen to be another one.
     #[tactic(auto, using(crate::proofs::Ending::ends_same, crate::proofs::Ending::ends_refl))]
     pub(crate) fn catch(&mut self) -> Result<(), AllocError>
         requires catch { HasCatcher self.old.machine.stack }
@@ -42,6 +43,11 @@ impl Progress {
         let Outcome::Throw(ball, _) = outcome else {
             unreachable!()
         };
+        let heap = self.machine.stack.env().heap();
+        if is_apart(heap, &catcher.catcher, &ball.root()) {
+            self.machine.stack.close();
+            return Ok(());
+        }
         let v = self.machine.stack.put_copy(self.machine.alloc, ball)?;
         if self.machine.stack.unify(catcher.catcher, v)? {
             self.recover(catcher.recovery, list)?;
