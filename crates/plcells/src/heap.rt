@@ -267,6 +267,7 @@ fn take_off(cells: &mut Vec<Cell>, trail: &mut Vec<Trailed>, keep: usize)
 }
 
 /// Moves the bindings of cells below a number to the front, in their order: how many there are.
+#[inline(never)]
 fn move_older(trail: &mut [Trailed], cells: usize) -> usize
     ensures moved { take result trail.new ≡ older cells trail.old }
     ensures within { result ≤ length trail.old }
@@ -283,6 +284,7 @@ fn move_older(trail: &mut [Trailed], cells: usize) -> usize
 }
 
 /// Leaves of the bindings from a place on only those of cells below a number.
+#[inline(always)]
 fn leave_older(trail: &mut Vec<Trailed>, from: usize, cells: usize)
     requires { from ≤ length trail.old.items }
     ensures { trail.new.items ≡ take from trail.old.items ++ older cells (drop from trail.old.items) }
@@ -471,6 +473,7 @@ impl Heap {
     }
 
     /// A choice is given up: only so many cells are old from now on, and of the bindings noted from a place on only those of such cells stay noted. Marks up to there stay in use.
+    #[inline(always)]
     pub fn commit(&mut self, trail: usize, cells: usize)
         requires old { cells ≤ self.old.boundary }
         requires noted { trail ≤ length self.old.trail }

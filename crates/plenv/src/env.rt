@@ -96,6 +96,7 @@ fn free(slots: &mut Vec<Slot>, noted: &mut Vec<Noted>, keep: usize)
 }
 
 /// Moves the notes of slots below a number to the front, in their order: how many there are.
+#[inline(never)]
 fn move_older(noted: &mut [Noted], slots: usize) -> usize
     ensures moved { take result noted.new ≡ older slots noted.old }
     ensures within { result ≤ length noted.old }
@@ -112,6 +113,7 @@ fn move_older(noted: &mut [Noted], slots: usize) -> usize
 }
 
 /// Leaves of the notes from a place on only those of slots below a number.
+#[inline(always)]
 fn leave_older(noted: &mut Vec<Noted>, from: usize, slots: usize)
     requires { from ≤ length noted.old.items }
     ensures { noted.new.items ≡ take from noted.old.items ++ older slots (drop from noted.old.items) }
@@ -351,6 +353,7 @@ impl Environment {
     }
 
     /// The choice at a mark is given up: only so many cells and slots are old from now on.
+    #[inline(always)]
     pub fn commit(&mut self, since: Mark, cells: usize, slots: usize)
         requires cells { cells ≤ self.old.heap.boundary }
         requires slots { slots ≤ self.old.boundary }
