@@ -190,6 +190,12 @@ const CATCHERS: [&[Row]; 5] = [
             "% thread 1 main: true\nhello\n",
             Status::Done,
         ),
+        (
+            RUN,
+            ":- initialization((catch(catch(catch(catch(throw(f(X, b, 1)), g(_, _, _), write(no)), f(_, c, _), write(no)), f(_, _, 2), write(no)), f(Z, b, 1), true), writeq(f(X, Z)))).",
+            "% thread 1 main: true\nf(_1,_2)\n",
+            Status::Done,
+        ),
     ],
     &[
         // What is caught where: by the innermost catcher that is active and fits; nothing of its goal is tried again.
