@@ -68,8 +68,10 @@ fn put_goal(
 pub fn holds_goals(name: &Name, count: usize) -> bool
     ensures { result ≡ is_control name.now count }
 {
-    let text = name.as_str();
-    count == 2 && (text == "," || text == ";" || text == "->")
+    match name.as_str() {
+        "," | ";" | "->" => count == 2,
+        _ => false,
+    }
 }
 
 /// A goal is its own conversion.

@@ -1,12 +1,11 @@
 //! The table of names, by hash.
 ghost use Rattle.std.specs.Prelude.{◌≡◌, [], IfOk, fold, map};
-ghost use Rattle.std.specs.List.{list_any};
-ghost use Rattle.plnames.specs.Names.{kind_of, is_fixed, is_named, rows};
-ghost use Rattle.plnames.specs.Entries.{row_of, entry_row, put};
+ghost use Rattle.plnames.specs.Names.{directive_of, directives as directive_rows, kept as kept_names, kind_of, is_fixed, rows};
+ghost use Rattle.plnames.specs.Entries.{row_of, entry_row, name_row, put, put_name};
 
-use crate::kind::Kind;
-use crate::rows::{KEPT, ROWS};
-use indexmap::IndexMap;
+use crate::kind::{Directive, Kind};
+use crate::rows::{DIRECTIVES, KEPT, ROWS};
+use indexmap::{IndexMap, IndexSet};
 use plterm::indicator::Indicator;
 use std::alloc::{AllocError, Global};
 
@@ -14,14 +13,24 @@ use std::alloc::{AllocError, Global};
 #[derive(Drop)]
 pub struct NameTable {
     kinds: IndexMap<(&'static str, u16), Kind>,
+    kept: IndexSet<(&'static str, u16)>,
+    directives: IndexMap<(&'static str, u16), Directive>,
     ghost whole: { map entry_row kinds.entries ≡ rows },
+    ghost all_kept: { map name_row kept.keys ≡ kept_names },
+    ghost all_directives: { map entry_row directives.entries ≡ directive_rows },
 }
 
 impl NameTable {
     /// The table of all rows.
     pub fn new(alloc: Global) -> Result<NameTable, AllocError> {
         let kinds = by_name(alloc, ROWS)?;
-        Ok(NameTable { kinds })
+        let kept = of_names(alloc, KEPT)?;
+        let directives = by_name(alloc, DIRECTIVES)?;
+        Ok(NameTable {
+            kinds,
+            kept,
+            directives,
+        })
     }
 
     /// What a name with an arity is: a control construct or a built-in predicate, if it is one.
@@ -31,29 +40,29 @@ impl NameTable {
         self.kinds.get(&(name, arity)).copied()
     }
 
+    /// What a name with so many arguments is as a directive, if it is one.
+    pub fn directive_of(&self, name: &str, arity: u16) -> Option<Directive>
+        ensures { result ≡ directive_of name.now arity }
+    {
+        self.directives.get(&(name, arity)).copied()
+    }
+
     /// Whether the procedure is a control construct or a built-in predicate, or its name is kept for one: it is static whatever the program
     /// holds (ISO/IEC 13211-1 7.5.2).
     pub fn is_fixed(&self, indicator: &Indicator) -> bool
         ensures { result ≡ is_fixed indicator.now }
     {
-        let kind = self.kind_of(indicator.name.as_str(), indicator.arity);
-        kind.is_some() || is_among(KEPT, indicator)
+        let name = indicator.name.as_str();
+        self.kind_of(name, indicator.arity).is_some()
+            || self.kept.contains(&(name, indicator.arity))
     }
 }
 
-/// Whether a procedure's name and arity are among some.
-fn is_among(names: &[(&'static str, u16)], indicator: &Indicator) -> bool
-    ensures { result ≡ list_any (λ n. is_named indicator.now n.0.now n.1) names.now }
-{
-    let name = indicator.name.as_str();
-    names.iter().any(|row| indicator.arity == row.1 && name.len() == row.0.len() && name == row.0)
-}
-
-/// The kinds of rows, by name and arity.
-fn by_name(
+/// What rows say, by name and arity.
+fn by_name<K: Copy>(
     alloc: Global,
-    rows: &[(&'static str, u16, Kind)],
-) -> Result<IndexMap<(&'static str, u16), Kind>, AllocError>
+    rows: &[(&'static str, u16, K)],
+) -> Result<IndexMap<(&'static str, u16), K>, AllocError>
     ensures { IfOk result (λ kinds. map entry_row kinds.entries ≡ fold put [] (map row_of rows.now)) }
 {
     let mut kinds = IndexMap::new(alloc);
@@ -61,4 +70,18 @@ fn by_name(
         kinds.insert((name, arity), kind)?;
     }
     Ok(kinds)
+}
+
+/// The procedures of these names and arities.
+fn of_names(
+    alloc: Global,
+    names: &[(&'static str, u16)],
+) -> Result<IndexSet<(&'static str, u16)>, AllocError>
+    ensures { IfOk result (λ set. map name_row set.keys ≡ fold put_name [] (map name_row names.now)) }
+{
+    let mut set = IndexSet::new(alloc);
+    for &(name, arity) in names {
+        set.insert((name, arity))?;
+    }
+    Ok(set)
 }

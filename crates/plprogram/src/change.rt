@@ -121,10 +121,13 @@ fn unknown_named(value: Option<&Name>) -> Option<Unknown>
 fn is_read_only(flag: &str) -> bool
     ensures { result ≡ is_read_only flag.now }
 {
-    flag == "bounded"
-        || flag == "max_integer"
-        || flag == "min_integer"
-        || flag == "integer_rounding_function"
-        || flag == "max_arity"
-        || flag == "occurs_check"
+    match flag {
+        "bounded"
+        | "max_integer"
+        | "min_integer"
+        | "integer_rounding_function"
+        | "max_arity"
+        | "occurs_check" => true,
+        _ => false,
+    }
 }
