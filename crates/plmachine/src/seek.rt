@@ -1,15 +1,19 @@
 //! Clauses that are looked up, and updates that are made: of what is open at once, or else by what is asked.
 //!
 //! A row that is refused memory leaves the search where it was.
-ghost use Rattle.std.specs.Prelude.{◌≡◌, ℕ, [], ◌∷◌, List, IfOk, OnOk, OnErr};
+ghost use Rattle.std.specs.Prelude.{◌≡◌, ℕ, true, false, [], ◌∷◌, List, IfOk, OnOk, OnErr};
 ghost use Rattle.plcells.specs.Store.{value};
 ghost use Rattle.plevent.specs.Search.{Answer};
-ghost use Rattle.pltx.specs.Own.{any_open};
+ghost use Rattle.pltx.specs.Own.{all_made, any_open};
 ghost use Rattle.plstore.specs.Looking.{Views};
 ghost use Rattle.plsearch.specs.Lookups.{seek};
 ghost use Rattle.plsearch.specs.Moves.{go_on as went_on, publish};
 ghost use Rattle.plsearch.specs.Types.{Asking, Erase};
 ghost use Rattle.plstack.specs.State.{goals_of, IsEmptyOrFit, IsFit, IsList};
+ghost use Rattle.plcells.specs.declared.cell.Cell.{Cell as OfCell};
+ghost use Rattle.plmachine.specs.declared.machine.Sweep.{Sweep as OfSweep};
+ghost use Rattle.plmachine.specs.declared.machine.Mode.TheVariants.{Find as Finds};
+ghost use Rattle.plmachine.specs.declared.machine.Find.TheVariants.{Sweep as SweepOf};
 ghost use Rattle.plmachine.specs.Lists.{Grown};
 ghost use Rattle.plmachine.specs.Machine.{below_in, depth_of, local_of, lookup_of, IsSought, IsTied, Moved, MovedBy, Stays};
 ghost use Rattle.plmachine.specs.Seeking.{ErasesBefore, SeeksBy};
@@ -25,6 +29,7 @@ use plstack::frame::Use;
 use pltx::Erasure;
 use plviews::View;
 use std::alloc::AllocError;
+use std::mem::replace;
 
 impl Machine {
     /// Clauses are looked up before a list, in what is open, or else in a view that is asked for.
@@ -78,17 +83,73 @@ impl Machine {
         ensures err { (P : Given) → OnErr result (Stays P self.old self.new) }
     {
         if self.layer.is_open() {
-            self.layer.make(updates)?;
+            self.layer.make(&updates)?;
             self.go_on(rest);
             return Ok(());
         }
+        self.publish_batch(updates, rest);
+        Ok(())
+    }
+
+    /// Updates are published as one batch, of which there is none without an update.
+    fn publish_batch(&mut self, updates: Vec<Update>, rest: Continuation)
+        requires closed { any_open self.old.layer.own ≡ false }
+        requires rest { IsList self.old.stack rest }
+        requires fits { IsFit self.old.stack rest }
+        ensures { (P : Given) → Moved P self.old self.new (publish updates.items (goals_of self.old.stack rest) self.old.stack.env.count (local_of self.old)) }
+    {
         if updates.is_empty() {
             self.go_on(rest);
-            return Ok(());
+            return;
         }
         let request = Request::Publish(Batch::new(self.alloc, updates));
         self.ask(Question::Await(request, Then::GoesOn), rest);
+    }
+
+    /// What the sweep in hand has to erase is erased, as updates are made or published. Nothing is copied, and the sweep stays where it is refused.
+    pub fn publish_swept(&mut self, rest: Continuation) -> Result<(), AllocError>
+        requires sweeps { (c : OfCell) × (w : OfSweep) × (self.old.mode ≡ Finds (SweepOf c w)) }
+        requires rest { IsList self.old.stack rest }
+        requires fits { IsFit self.old.stack rest }
+        requires tied { IsTied self.old }
+        ensures ok { (P : Given) → OnOk result ((c : OfCell) (w : OfSweep) → self.old.mode ≡ Finds (SweepOf c w) → Moved P self.old self.new (publish w.updates.items (goals_of self.old.stack rest) self.old.stack.env.count (local_of self.old))) }
+        ensures err { (P : Given) → OnErr result (Stays P self.old self.new) }
+    {
+        if self.layer.is_open() {
+            self.make_swept()?;
+            self.go_on(rest);
+            return Ok(());
+        }
+        let updates = self.take_swept();
+        self.publish_batch(updates, rest);
         Ok(())
+    }
+
+    /// The erasures of the sweep in hand are made of what is open.
+    fn make_swept(&mut self) -> Result<(), AllocError>
+        requires sweeps { (c : OfCell) × (w : OfSweep) × (self.old.mode ≡ Finds (SweepOf c w)) }
+        requires open { any_open self.old.layer.own ≡ true }
+        ensures ok { OnOk result ((c : OfCell) (w : OfSweep) → self.old.mode ≡ Finds (SweepOf c w) → self.new ≡ record self.old { layer = record self.old.layer { own = all_made w.updates.items self.old.layer.own } }) }
+        ensures err { OnErr result (self.new ≡ self.old) }
+        ensures frame { self.new ≡ record self.old { layer = self.new.layer } }
+    {
+        let Mode::Find(Find::Sweep(_, sweep)) = &self.mode else {
+            unreachable!()
+        };
+        self.layer.make(&sweep.updates)
+    }
+
+    /// The erasures of the sweep in hand, which ends.
+    fn take_swept(&mut self) -> Vec<Update>
+        requires { (c : OfCell) × (w : OfSweep) × (self.old.mode ≡ Finds (SweepOf c w)) }
+        ensures is { (c : OfCell) (w : OfSweep) → self.old.mode ≡ Finds (SweepOf c w) → result.items ≡ w.updates.items }
+        ensures frame { self.new ≡ record self.old { mode = Mode.Visit } }
+    {
+        let mode = replace(&mut self.mode, Mode::Visit);
+        let Mode::Find(Find::Sweep(_, sweep)) = mode else {
+            unreachable!()
+        };
+        sweep.updates
     }
 
     /// The same of one update.

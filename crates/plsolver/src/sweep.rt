@@ -38,7 +38,7 @@ use plrefusals::value::indicator_of;
 use plstack::frame::Use;
 use pltx::OwnCursor;
 use plviews::{Reach, Step, View};
-use std::alloc::{AllocError, Global};
+use std::alloc::AllocError;
 use std::mem;
 
 /// What a sweep came to among own clauses.
@@ -298,23 +298,8 @@ impl Progress {
         ensures err { (P : Given) → IsOf P self.old.machine → OnErr result (Stays P self.old self.new) }
         ensures walks { EndsWalks self.old.machine.stack self.new.machine.stack }
     {
-        let updates = self.erasures()?;
         let rest = self.machine.stack.visited();
-        self.machine.publish(updates, rest)
-    }
-
-    /// The erasures of the sweep in hand, which keeps them.
-    fn erasures(&self) -> Result<Vec<Update>, AllocError>
-        requires { IsSweeping self.now }
-        ensures { IfOk result (λ us. (c : OfCell) (w : OfSweep) → self.now.machine.mode ≡ Finds (SweepOf c w) → us.items ≡ w.updates.items) }
-    {
-        let Mode::Find(find) = &self.machine.mode else {
-            unreachable!()
-        };
-        let Find::Sweep(_, sweep) = find else {
-            unreachable!()
-        };
-        copied(self.machine.alloc, &sweep.updates)
+        self.machine.publish_swept(rest)
     }
 }
 
@@ -338,15 +323,4 @@ fn add_erasure(updates: &mut Vec<Update>, name: ClauseName, has: bool) -> Result
         updates.push(Update::Erase(name))?;
     }
     Ok(())
-}
-
-/// The same updates again.
-fn copied(alloc: Global, updates: &[Update]) -> Result<Vec<Update>, AllocError>
-    ensures { IfOk result (λ us. us.items ≡ updates.now) }
-{
-    let mut copies = Vec::with_capacity(alloc, updates.len())?;
-    for update in updates {
-        copies.push(update.copied()?)?;
-    }
-    Ok(copies)
 }

@@ -4,7 +4,7 @@ ghost use Rattle.plmachinemade.specs.Ready.{IsReady};
 
 use crate::control::foo;
 use plevent::{ClauseName, Update};
-use plmachine::machine::Machine;
+use plmachine::machine::{Find, Machine, Mode, Sweep, SweepSpot};
 use plmachine::select::Source;
 use plmachine::walk::Neck;
 use plmachinemade::made::{first_goal, first_of_one, first_of_two};
@@ -13,6 +13,8 @@ use plmachinemade::told::told;
 use plnames::kind::Side;
 use plprogram::program::Program;
 use plstack::frame::{Spot, Use, Walk};
+use pltx::OwnCursor;
+use plviews::{Reach, View};
 use std::alloc::{AllocError, Global};
 use std::string::String;
 use std::test::Fail;
@@ -28,6 +30,8 @@ enum Call {
     /// So many updates are published.
     Publish(u16),
     PublishOne,
+    /// The same of so many updates that a sweep has gathered.
+    PublishSwept(u16),
     Erase,
     Walk,
     Tell(Use),
@@ -119,6 +123,21 @@ fn publish_one(machine: &mut Machine) -> Result<(), Fail>
     Ok(())
 }
 
+/// So many procedures are declared as what a sweep has gathered, for which any updates will do.
+fn publish_swept(machine: &mut Machine, count: u16) -> Result<(), Fail>
+    requires { (P : Given) × IsReady P machine.old }
+{
+    let first = first_goal(machine)?;
+    let sweep = Sweep {
+        view: View { place: 0, count: 0 },
+        spot: SweepSpot::Seek(Reach::Front(OwnCursor::Start)),
+        updates: declarations(machine.alloc, count)?,
+    };
+    machine.mode = Mode::Find(Find::Sweep(first.goal, sweep));
+    machine.publish_swept(first.rest)?;
+    Ok(())
+}
+
 /// The clause that update 1 of the batch at 2 made is erased.
 fn erase(machine: &mut Machine) -> Result<(), Fail>
     requires { (P : Given) × IsReady P machine.old }
@@ -178,6 +197,7 @@ fn make_call(program: &Program, machine: &mut Machine, by: Call) -> Result<(), F
         Call::Declare => declare(program, machine),
         Call::Publish(count) => publish(machine, count),
         Call::PublishOne => publish_one(machine),
+        Call::PublishSwept(count) => publish_swept(machine, count),
         Call::Erase => erase(machine),
         Call::Walk => walk(machine),
         Call::Tell(uses) => tell(machine, uses),
@@ -304,11 +324,19 @@ const ROWS: [&[Row<Call>]; 4] = [
             "fails | walk 2 erase p(_1):-q,_1",
         ),
     ],
-    &[(
-        Call::DeclareOne,
-        "g",
-        "asks publish declare foo/2; z@0 | plain 1 none 0",
-    )],
+    &[
+        (
+            Call::DeclareOne,
+            "g",
+            "asks publish declare foo/2; z@0 | plain 1 none 0",
+        ),
+        (
+            Call::PublishSwept(2),
+            "g",
+            "asks publish declare foo/0; declare foo/1; z@0 | plain 1 none 0",
+        ),
+        (Call::PublishSwept(0), "g", "visits z@0 | plain 1 none 0"),
+    ],
 ];
 
 #[test]

@@ -109,10 +109,10 @@ impl Layer {
         self.place = place;
     }
 
-    /// Makes updates inside of what is open: all of them, or none.
-    pub fn make(&mut self, updates: Vec<Update>) -> Result<(), AllocError>
+    /// Makes updates inside of what is open, which shares their clauses: all of them, or none.
+    pub fn make(&mut self, updates: &[Update]) -> Result<(), AllocError>
         requires { any_open self.old.own ≡ true }
-        ensures made { OnOk result (self.new ≡ record self.old { own = all_made updates.items self.old.own }) }
+        ensures made { OnOk result (self.new ≡ record self.old { own = all_made updates.now self.old.own }) }
         ensures refused { OnErr result (self.new ≡ self.old) }
     {
         let base = self.own.base();
@@ -180,12 +180,13 @@ fn target_of(base: JournalPlace, name: ClauseName) -> Target
 }
 
 /// Makes updates one after another. Where one is refused, those before it are made.
-fn make_each(own: &mut Own, updates: Vec<Update>) -> Result<(), AllocError>
+fn make_each(own: &mut Own, updates: &[Update]) -> Result<(), AllocError>
     requires { any_open own.old ≡ true }
-    ensures made { OnOk result (own.new ≡ all_made updates.items own.old) }
+    ensures made { OnOk result (own.new ≡ all_made updates.now own.old) }
     ensures some { OnErr result (Grows own.old own.new) }
 {
     for update in updates {
+        let update = update.copied()?;
         make_one(own, update)?;
     }
     Ok(())

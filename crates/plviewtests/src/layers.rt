@@ -86,7 +86,7 @@ fn inside(alloc: Global, layer: &mut Layer, to: Move) -> Result<&'static str, Te
     match to {
         Move::Begin(kind, _) => layer.enter(kind)?,
         Move::MakeOne(change) => layer.make_one(update(alloc, change)?)?,
-        Move::Make(changes) => layer.make(updates(alloc, changes)?)?,
+        Move::Make(changes) => layer.make(&updates(alloc, changes)?)?,
         Move::Erase(place, number) => {
             let erasure = layer.erase(name(place, number))?;
             return Ok(told_of_erasure(erasure));

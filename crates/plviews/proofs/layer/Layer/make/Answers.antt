@@ -14,8 +14,8 @@ pub end_inner-requires : goal.end_inner-requires
 end_inner-requires c =
     let o = c.self.inside.own in
     let begins : c.begin.new.self ≡ begun Transaction o.base o = c.in_ok-begin.ensures.begun ∙ ap (λ b. begun Transaction b o) c.base-base.ensures in
-    ap any_open (c.in-Ok.ensures.made ∙ ap (all_made c.args.updates.items) begins)
-    ∙ all-made-open c.args.updates.items (begun Transaction o.base o) (begun-open o (ap (λ (x : Layered). any_open x.own) c.self.view_is ∙ c.requires))
+    ap any_open (c.in-Ok.ensures.made ∙ ap (all_made c.args.updates.now) begins)
+    ∙ all-made-open c.args.updates.now (begun Transaction o.base o) (begun-open o (ap (λ (x : Layered). any_open x.own) c.self.view_is ∙ c.requires))
 
 pub end_inner-requires-in-Err : goal.end_inner-requires-in-Err
 end_inner-requires-in-Err c =
@@ -23,12 +23,12 @@ end_inner-requires-in-Err c =
     let begins : c.begin.new.self ≡ begun Transaction o.base o = c.in_ok-begin.ensures.begun ∙ ap (λ b. begun Transaction b o) c.base-base.ensures in
     grows-open c.begin.new.self c.make_each.new.own (ap any_open begins ∙ begun-open o (ap (λ (x : Layered). any_open x.own) c.self.view_is ∙ c.requires)) c.in-Err.ensures.some
 
-made-is : (c : goal.After-end_inner) → c.end_inner.new.own ≡ all_made c.args.updates.items c.self.inside.own
+made-is : (c : goal.After-end_inner) → c.end_inner.new.own ≡ all_made c.args.updates.now c.self.inside.own
 made-is c =
     let o = c.self.inside.own in
     let begins : c.begin.new.self ≡ begun Transaction o.base o = c.in_ok-begin.ensures.begun ∙ ap (λ b. begun Transaction b o) c.base-base.ensures in
-    c.end_inner.ensures ∙ ap (ended true) (c.in-Ok.ensures.made ∙ ap (all_made c.args.updates.items) begins)
-    ∙ made-inside c.args.updates.items o (ap (λ (x : Layered). any_open x.own) c.self.view_is ∙ c.requires)
+    c.end_inner.ensures ∙ ap (ended true) (c.in-Ok.ensures.made ∙ ap (all_made c.args.updates.now) begins)
+    ∙ made-inside c.args.updates.now o (ap (λ (x : Layered). any_open x.own) c.self.view_is ∙ c.requires)
 
 none-is : (c : goal.After-end_inner-in-Err) → c.end_inner-in-Err.new.own ≡ c.self.inside.own
 none-is c =
@@ -39,14 +39,14 @@ none-is c =
 
 pub invariant_of-self-in-Ok : goal.invariant_of-self-in-Ok
 invariant_of-self-in-Ok c =
-    subst (λ (s : State). IsLayer (record { own = s; place = c.self.inside.place })) (sym (made-is c)) (all-made-layer c.args.updates.items (record { own = c.self.inside.own; place = c.self.inside.place }) (ap (λ (x : Layered). any_open x.own) c.self.view_is ∙ c.requires) c.self.invariant)
+    subst (λ (s : State). IsLayer (record { own = s; place = c.self.inside.place })) (sym (made-is c)) (all-made-layer c.args.updates.now (record { own = c.self.inside.own; place = c.self.inside.place }) (ap (λ (x : Layered). any_open x.own) c.self.view_is ∙ c.requires) c.self.invariant)
 
 pub invariant_of-self-in-Err : goal.invariant_of-self-in-Err
 invariant_of-self-in-Err c = subst (λ (s : State). IsLayer (record { own = s; place = c.self.inside.place })) (sym (none-is c)) c.self.invariant
 
 pub returns-in-Ok-clause-made : goal.returns-in-Ok-clause-made
 returns-in-Ok-clause-made c =
-    ap (λ (s : State). record { own = s; place = c.self.inside.place }) (made-is c) ∙ ap (λ (x : Layered). record x { own = all_made c.args.updates.items x.own }) c.self.view_is
+    ap (λ (s : State). record { own = s; place = c.self.inside.place }) (made-is c) ∙ ap (λ (x : Layered). record x { own = all_made c.args.updates.now x.own }) c.self.view_is
 
 pub returns-in-Err-clause-refused : goal.returns-in-Err-clause-refused
 returns-in-Err-clause-refused c = ap (λ (s : State). record { own = s; place = c.self.inside.place }) (none-is c) ∙ c.self.view_is
