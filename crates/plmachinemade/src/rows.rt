@@ -6,6 +6,7 @@ use plmachine::machine::Machine;
 use plprogram::program::Program;
 use std::alloc::Global;
 use std::fmt::Write;
+use std::mem::forget;
 use std::string::String;
 use std::test::Fail;
 
@@ -32,10 +33,12 @@ fn told_in<D: Doing>(
     doing.tell(program, machine)
 }
 
-/// What is told of a machine of a program at the goal of a text.
+/// What is told of a machine of a program at the goal of a text. The machine is left where it is: the process of a test ends soon.
 fn told<D: Doing>(alloc: Global, program: &Program, doing: &D, text: &str) -> Result<String, Fail> {
     let mut machine = blank(alloc, program)?;
-    told_in(program, &mut machine, doing, text)
+    let told = told_in(program, &mut machine, doing, text);
+    forget(machine);
+    told
 }
 
 /// Adds what is found for a text, where it is not what is wanted.

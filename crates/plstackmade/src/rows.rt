@@ -6,6 +6,7 @@ ghost use Rattle.plstack.specs.StaticCalls.{AreStatics};
 use crate::made::{begin, blank};
 use plstack::stack::Stack;
 use std::alloc::Global;
+use std::mem::forget;
 use std::string::String;
 use std::test::Fail;
 
@@ -33,8 +34,10 @@ fn told_in<D: Doing>(
 }
 
 /// What is told of a stack of a program's text in which the body of the first clause that fits the goal of a text is visited. The goal
-/// stands in the one case that was open, and its call in a second one.
+/// stands in the one case that was open, and its call in a second one. The stack is left where it is: the process of a test ends soon.
 pub fn told<D: Doing>(alloc: Global, text: &str, goal: &str, doing: &D) -> Result<String, Fail> {
     let mut stack = blank(alloc, text)?;
-    told_in(&mut stack, alloc, goal, doing)
+    let told = told_in(&mut stack, alloc, goal, doing);
+    forget(stack);
+    told
 }
