@@ -41,6 +41,3 @@ no-lower l d h = grind (arith, nat_tests)
 
 pub yes-higher : (l d : ℕ) → nat_lt l d ≡ false → nat_le d l ≡ true
 yes-higher l d h = grind (arith, nat_tests)
-
-pub is-le : (l d : ℕ) → l ≤ d → nat_le l d ≡ true
-is-le l d h = grind (arith, nat_tests)

@@ -19,7 +19,7 @@ low k l = nat_le l k
 abbrev apart : ℕ → ℕ → Levels
 apart k d l = nat_le l k || nat_le d l
 
-at-most : (l k : ℕ) → l ≤ k → nat_le l k ≡ true
+pub at-most : (l k : ℕ) → l ≤ k → nat_le l k ≡ true
 at-most l k h = grind (arith, nat_tests)
 
 is-most : (l k : ℕ) → nat_le l k ≡ true → l ≤ k

@@ -7,6 +7,7 @@ use Rattle.pltx.specs.Own.{State, any_open, nothing}
 use Rattle.plevent.specs.declared.request.Request.TheVariants.{HaltRun}
 use Rattle.plsearch.specs.Types.{Commit, Never, Until, Collect, Transact, Ends, Question, Await, Erase, Element, Goal, Marker, Raise, Asking, Case, Choice, Mark, Handle, Handler, Catch, Gather, Undo}
 use Rattle.plsearch.specs.Lists.{bind_goals}
+use Rattle.plsearch.proofs.Cuts.{at-most}
 use Rattle.plsearch.specs.Engine.{deeper}
 
 -- what a case is
@@ -99,9 +100,6 @@ pub record Stands (x : State) (n : ℕ) : Type 0 where
   pub none : n ≡ 0 → x ≡ nothing
 
 -- levels
-le-true : (a b : ℕ) → a ≤ b → nat_le a b ≡ true
-le-true a b h = grind (arith, nat_tests)
-
 le-false : (a b : ℕ) → b < a → nat_le a b ≡ false
 le-false a b h = grind (arith, nat_tests)
 
@@ -113,7 +111,7 @@ either-le a b = go (nat_le a b) refl
     go false is = inr (grind (arith, nat_tests))
 
 pub upto-here : (l : ℕ) (e : Entry) (Γ : List Entry) → e.level ≤ l → upto l (e ∷ Γ) ≡ e ∷ Γ
-upto-here l e Γ le = rw (le-true e.level l le) refl
+upto-here l e Γ le = rw (at-most e.level l le) refl
 
 pub upto-past : (l : ℕ) (e : Entry) (Γ : List Entry) → l < e.level → upto l (e ∷ Γ) ≡ upto l Γ
 upto-past l e Γ lt = rw (le-false e.level l lt) refl

@@ -4,7 +4,7 @@ use Rattle.std.proofs.lemmas.List.{get_or_read_under}
 use Rattle.std.proofs.lemmas.Map.Keys.{le_from_is_le}
 use Rattle.std.proofs.lemmas.List.Sorted.{IsPartitionPoint-from_clause, IsPartitionedBy-leb}
 use Rattle.plcollect.specs.declared.collection.Held.{Held}
-use Rattle.plcollect.proofs.Parting.{is-le}
+use Rattle.plsearch.proofs.Cuts.{at-most}
 use Rattle.plcollect.proofs.collection.place_behind.Goals as goal
 
 pub returns-clause-point : goal.returns-clause-point
@@ -19,6 +19,6 @@ returns-then-le-clause-point c =
       (λ k d low high.
           let same : one ≡ slice_index_or hs last d = get_or_read_under hs last (length hs) one d c.index-held-count.is (omega arith) refl in
           let top : one.level ≤ c.args.level = le_from_is_le one.level c.args.level (ap (λ (h : Held). is_le (nat_cmp h.level c.args.level)) c.index-held-count.is ∙ sym c.if-le.ensures) in
-          is-le _ _ (omega (arith, c.requires k last d (omega arith) (omega arith), ap (λ (h : Held). h.level) same, top))),
+          at-most _ _ (omega (arith, c.requires k last d (omega arith) (omega arith), ap (λ (h : Held). h.level) same, top))),
       λ k d low high. absurd (omega arith),
     )
