@@ -1,5 +1,6 @@
 //! Code while it is compiled, with its names.
-ghost use Rattle.std.specs.Prelude.{◌≡◌, ◌≤◌, length, IfOk};
+ghost use Rattle.std.specs.Prelude.{◌≡◌, ◌≤◌, [], length, IfOk, OnOk};
+ghost use Rattle.platoms.specs.Names.{IsTable};
 ghost use Rattle.plterm.specs.Reading.{IsName};
 ghost use Rattle.plcode.specs.Steps.{text};
 ghost use Rattle.plcode.specs.Bodies.{IsCode};
@@ -34,25 +35,34 @@ impl Draft {
     pub fn new(alloc: Global) -> Result<Draft, AllocError>
         ensures { IfOk result (λ c. IsCode (text c)) }
     {
-        let mut names = Names::new(alloc);
-        let fail = names.atom(&name_of(alloc, "fail")?)?;
-        let mut nodes = Vec::new(alloc);
-        nodes.push(Node::Atom(fail))?;
-        let mut steps = Vec::new(alloc);
-        steps.push(Step {
+        let mut draft = Draft {
+            names: Names::new(alloc),
+            nodes: Vec::new(alloc),
+            steps: Vec::new(alloc),
+        };
+        draft.begin(alloc)?;
+        Ok(draft)
+    }
+
+    /// Puts the sequence of fail/0 where there is nothing.
+    fn begin(&mut self, alloc: Global) -> Result<(), AllocError>
+        requires table { IsTable self.old.names }
+        requires nodes { self.old.nodes.items ≡ [] }
+        requires steps { self.old.steps.items ≡ [] }
+        ensures { OnOk result (IsCode (text self.new)) }
+    {
+        let fail = self.names.atom(&name_of(alloc, "fail")?)?;
+        self.nodes.push(Node::Atom(fail))?;
+        self.steps.push(Step {
             op: Op::Proceed,
             conjunctions: 0,
             goal: 0,
         })?;
-        steps.push(Step {
+        self.steps.push(Step {
             op: Op::Goal,
             conjunctions: 0,
             goal: 0,
         })?;
-        Ok(Draft {
-            names,
-            nodes,
-            steps,
-        })
+        Ok(())
     }
 }

@@ -2,13 +2,17 @@
 ghost use Rattle.std.specs.Prelude.{◌≡◌, ◌<◌, ◌≤◌, ◌++◌, [], List, length, map, get_or, IfOk, IfSome, IfNone, OnOk};
 ghost use Rattle.plterm.specs.declared.indicator.Indicator.{Indicator as OfIndicator};
 ghost use Rattle.plnames.specs.Entries.{row_of};
+ghost use Rattle.plnames.specs.Names.{rows};
 ghost use Rattle.platoms.specs.Names.{IsTable, Extends};
 ghost use Rattle.plcode.specs.declared.callee.Callee.{Callee as OfCallee};
+ghost use Rattle.plcode.specs.declared.callee.Callee.TheVariants.{Unknown};
+ghost use Rattle.plcode.specs.declared.callee.Entry.{Entry as OfEntry};
+ghost use Rattle.plcode.specs.declared.callee.Number.{Number as OfNumber};
 ghost use Rattle.plcode.specs.declared.callee.Number.TheVariants.{Atom, Functor};
 ghost use Rattle.plcode.specs.Laying.{IsLaid};
 ghost use Rattle.plcode.specs.Steps.{goals_from, step_at, Meets};
 ghost use Rattle.plcode.specs.Bodies.{IsCode};
-ghost use Rattle.plcode.specs.Callees.{callee_at, of_clauses, of_kind, row_callee, statics, AreEntries, IsProgramCode};
+ghost use Rattle.plcode.specs.Callees.{callee_at, found, of_clauses, of_kind, row_callee, statics, AreEntries, IsProgramCode};
 
 use crate::callee::{Callee, Callees, Entry, Number, number_of};
 use crate::code::Code;
@@ -94,6 +98,23 @@ fn add_procedures(
     Ok(())
 }
 
+/// What is called by each number in a program, whose names get their numbers.
+fn program_callees(
+    alloc: Global,
+    names: &mut Names,
+    program: &Program,
+) -> Result<Callees, AllocError>
+    requires { IsTable names.old }
+    ensures callees { IfOk result (λ m. (es : List OfEntry) × (AreEntries names.new (map row_callee rows ++ statics 0 program.now.procedures) es × ((n : OfNumber) → callee_at m n ≡ found Unknown es n))) }
+    ensures extends { OnOk result (Extends names.old names.new) }
+    ensures table { OnOk result (IsTable names.new) }
+{
+    let mut entries = row_entries(alloc, names, ROWS)?;
+    add_procedures(names, &mut entries, program)?;
+    let callees = Callees::of(alloc, entries)?;
+    Ok(callees)
+}
+
 /// The code of a program: the names, nodes and steps of its clauses, its static procedures, in their order, and what is called by
 /// each number, also of names that a table gives later.
 #[derive(Drop)]
@@ -124,10 +145,8 @@ impl ProgramCode {
     {
         let mut draft = Draft::new(alloc)?;
         let procedures = compile_procedures(alloc, &mut draft, program)?;
-        let (code, mut names) = Code::of(draft);
-        let mut entries = row_entries(alloc, &mut names, ROWS)?;
-        add_procedures(&mut names, &mut entries, program)?;
-        let callees = Callees::of(alloc, entries)?;
+        let callees = program_callees(alloc, &mut draft.names, program)?;
+        let (code, names) = Code::of(draft);
         Ok(ProgramCode {
             names,
             code,
