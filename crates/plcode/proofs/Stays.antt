@@ -6,7 +6,7 @@ use Rattle.std.proofs.lemmas.List.{take-append-le}
 use Rattle.plterm.specs.Tree.{Tree}
 use Rattle.plterm.specs.Reading.{first}
 use Rattle.platoms.specs.Names.{Table, Extends, IsTable}
-use Rattle.platoms.proofs.Extending.{Extends-trans}
+use Rattle.platoms.proofs.Extending.{Extends-refl, Extends-trans}
 use Rattle.plcode.specs.declared.op.Op.{Op}
 use Rattle.plcode.specs.declared.op.Op.TheVariants as ops
 use Rattle.plcode.specs.declared.op.Step.{Step}
@@ -18,6 +18,9 @@ use Rattle.plcode.proofs.Placing.{Grows-refl, Grows-trans}
 use Rattle.plcode.proofs.Waiting.{IsLaid-names}
 use Rattle.plcode.proofs.Values.{IsRow-more}
 use Rattle.plcode.proofs.Meanings.{nowhere, meanings-put, meaning-live, meaning-ends}
+
+pub Extended-refl : (c : Text) → Extended c c
+Extended-refl c = record { names = Extends-refl c.names; nodes = Grows-refl c.nodes; more = []; steps = sym (append-nil c.steps) }
 
 pub Extended-trans : (a b c : Text) → Extended a b → Extended b c → Extended a c
 Extended-trans a b c p q = record {

@@ -1,6 +1,6 @@
 -- Nodes that wait on a stack for the compound that they are arguments of.
-use Rattle.std.proofs.Common.{◌≡◌, ℕ, ◌^◌, ◌<◌, ◌≤◌, List, [], ◌∷◌, ◌++◌, length, map, take, drop, refl, subst, ap, ◌∙◌, sym, arith, length-take}
-use Rattle.std.proofs.lemmas.List.{length-map, take_all, take-map, drop-map}
+use Rattle.std.proofs.Common.{◌≡◌, ℕ, ◌^◌, ◌<◌, ◌≤◌, List, [], ◌∷◌, ◌++◌, length, map, take, drop, reverse, refl, subst, ap, ◌∙◌, sym, arith, length-take}
+use Rattle.std.proofs.lemmas.List.{length-map, reverse-append, take_all, take-map, drop-map}
 use Rattle.std.proofs.Math.Seq.{drop-append_seam}
 use Rattle.plterm.specs.Tree.{Tree, compound, trees}
 use Rattle.platoms.specs.Names.{Table, Extends, IsTable, functor_name}
@@ -57,6 +57,14 @@ Waits-leaf t nodes w ts n u h named leaf is = record {
   chain = leaf_chain nodes (length nodes) w n leaf h.chain;
   terms = ap (λ v. v ∷ over t (values t nodes) w) is ∙ ap (λ us. u ∷ us) h.terms;
 }
+
+-- a leaf more on a stack
+pub Waits-pushed : (t : Table) (nodes old new : List Node) (ts : List Tree) (n : Node) (u : Tree) → new ≡ old ++ n ∷ []
+    → Waits t nodes (reverse old) ts → IsNamed t n → IsLeaf n → tree (value t (values t nodes) n) ≡ u → Waits t nodes (reverse new) (u ∷ ts)
+Waits-pushed t nodes old new ts n u pushed h named leaf is =
+    let P : List Node → Type 0 = λ w. Waits t nodes w (u ∷ ts) in
+    let top : reverse new ≡ n ∷ reverse old = ap reverse pushed ∙ reverse-append old (n ∷ []) in
+    subst P (sym top) (Waits-leaf t nodes (reverse old) ts n u h named leaf is)
 
 over-map : (t : Table) (vs : List Value) (w : List Node) → map tree (map (value t vs) w) ≡ over t vs w
 over-map t vs [] = refl

@@ -18,7 +18,7 @@ const MOST: u16 = 1024;
 
 /// What is called: a control construct, a built-in predicate, a procedure of the program's text by its place, or none of them. What
 /// is unknown here may be a dynamic procedure.
-#[derive(Clone, Copy, Debug, PartialEq, Eq)]
+#[derive(Clone, Copy, PartialEq, Eq)]
 pub enum Callee {
     Control(Control),
     BuiltIn(BuiltIn),
@@ -27,7 +27,7 @@ pub enum Callee {
 }
 
 /// The number of a procedure: its name's where it has no arguments, and else its functor's.
-#[derive(Clone, Copy, Debug, PartialEq, Eq)]
+#[derive(Clone, Copy)]
 pub enum Number {
     Atom(u32),
     Functor(u32),

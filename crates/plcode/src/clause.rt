@@ -18,7 +18,7 @@ use std::alloc::{AllocError, Global};
 
 /// A compiled clause: where the row of its head's arguments begins and how many they are, the key of the first of them, where the
 /// sequence of its body begins, how many variables it has, and whether its body is the atom true, which is no goal.
-#[derive(Clone, Copy, Debug, PartialEq, Eq)]
+#[derive(Clone, Copy)]
 pub struct ClauseCode {
     pub head: u32,
     pub arity: u16,

@@ -1,13 +1,16 @@
 //! Laying the nodes of terms down.
 ghost use Rattle.std.specs.Prelude.{◌≡◌, ◌^◌, ◌<◌, ◌≤◌, [], ◌∷◌, ◌++◌, length, take, drop, reverse, IfOk, OnOk, List};
-ghost use Rattle.plterm.specs.Tree.{Tree};
-ghost use Rattle.plterm.specs.Reading.{arity, read, reading, Fits, IsForest};
+ghost use Rattle.plterm.specs.Tree.{Tree, atom};
+ghost use Rattle.plterm.specs.declared.node.Node.TheVariants.{Compound};
+ghost use Rattle.plterm.specs.Reading.{arity, read, reading, Fits, IsForest, IsName};
 ghost use Rattle.platoms.specs.Names.{Table, Extends};
+ghost use Rattle.plcode.specs.declared.node.Node.{Node as OfNode};
 ghost use Rattle.plcode.specs.declared.node.Node.TheVariants.{Fun, Sub};
 ghost use Rattle.plcode.specs.Laying.{lower as lower_of, lowest, Grows, IsLaid, IsRow, Waits};
 
 use crate::node::Node;
 use platoms::names::{Functor, Names};
+use plterm::name::Name;
 use plterm::node::Node as TermNode;
 use plterm::walk::Terms;
 use std::alloc::{AllocError, Global};
@@ -79,8 +82,75 @@ fn put_block(
     Ok(())
 }
 
+/// Puts the node of an atom on a stack.
+fn put_atom(waiting: &mut Vec<Node>, names: &mut Names, name: &Name) -> Result<(), AllocError>
+    requires { IsName name.now }
+    ensures names { Extends names.old names.new }
+    ensures waits { OnOk result ((nodes : List OfNode) → (ts : List Tree) → Waits names.old nodes (reverse waiting.old.items) ts → Waits names.new nodes (reverse waiting.new.items) (atom name.now ∷ ts)) }
+{
+    let atom = names.atom(name)?;
+    waiting.push(Node::Atom(atom))?;
+    Ok(())
+}
+
+/// Lays a compound down whose arguments are the topmost nodes of a stack; its own node takes their place.
+fn put_compound(
+    nodes: &mut Vec<Node>,
+    waiting: &mut Vec<Node>,
+    names: &mut Names,
+    name: &Name,
+    arity: u16,
+) -> Result<(), AllocError>
+    requires room { arity ≤ length waiting.old.items }
+    requires fits { Fits (Compound name.now arity) }
+    ensures names { Extends names.old names.new }
+    ensures grows { OnOk result (Grows nodes.old.items nodes.new.items) }
+    ensures waits { OnOk result ((ts : List Tree) → Waits names.old nodes.old.items (reverse waiting.old.items) ts → Waits names.new nodes.new.items (reverse waiting.new.items) (read (Compound name.now arity) ts)) }
+{
+    let name = names.atom(name)?;
+    let functor = names.functor(Functor { name, arity })?;
+    put_block(nodes, waiting, functor, arity)?;
+    Ok(())
+}
+
 /// Lays a term down whose arguments are the topmost nodes of a stack; its own node takes their place.
 fn put_node(
+    nodes: &mut Vec<Node>,
+    waiting: &mut Vec<Node>,
+    names: &mut Names,
+    node: &TermNode,
+) -> Result<(), AllocError>
+    requires room { arity node.now ≤ length waiting.old.items }
+    requires fits { Fits node.now }
+    ensures names { Extends names.old names.new }
+    ensures grows { OnOk result (Grows nodes.old.items nodes.new.items) }
+    ensures waits { OnOk result ((ts : List Tree) → Waits names.old nodes.old.items (reverse waiting.old.items) ts → Waits names.new nodes.new.items (reverse waiting.new.items) (read node.now ts)) }
+{
+    match node {
+        TermNode::Var(variable) => {
+            let Ok(slot) = u32::try_from(*variable) else {
+                return Err(AllocError);
+            };
+            waiting.push(Node::Var(slot))?;
+            Ok(())
+        }
+        TermNode::Int(number) => {
+            waiting.push(Node::Int(*number))?;
+            Ok(())
+        }
+        TermNode::Atom(name) => {
+            put_atom(waiting, names, name)?;
+            Ok(())
+        }
+        TermNode::Compound(name, arity) => {
+            put_compound(nodes, waiting, names, name, *arity)?;
+            Ok(())
+        }
+    }
+}
+
+/// Lays a term down by a node that was read, whose arguments are the topmost nodes of a stack; its own node takes their place.
+fn put_read(
     nodes: &mut Vec<Node>,
     waiting: &mut Vec<Node>,
     names: &mut Names,
@@ -92,30 +162,7 @@ fn put_node(
     ensures grows { OnOk result (Grows nodes.old.items nodes.new.items) }
     ensures waits { OnOk result ((ts : List Tree) → Waits names.old nodes.old.items (reverse waiting.old.items) ts → Waits names.new nodes.new.items (reverse waiting.new.items) (read node ts)) }
 {
-    match node {
-        TermNode::Var(variable) => {
-            let Ok(slot) = u32::try_from(variable) else {
-                return Err(AllocError);
-            };
-            waiting.push(Node::Var(slot))?;
-            Ok(())
-        }
-        TermNode::Int(number) => {
-            waiting.push(Node::Int(number))?;
-            Ok(())
-        }
-        TermNode::Atom(name) => {
-            let atom = names.atom(&name)?;
-            waiting.push(Node::Atom(atom))?;
-            Ok(())
-        }
-        TermNode::Compound(name, arity) => {
-            let name = names.atom(&name)?;
-            let functor = names.functor(Functor { name, arity })?;
-            put_block(nodes, waiting, functor, arity)?;
-            Ok(())
-        }
-    }
+    put_node(nodes, waiting, names, &node)
 }
 
 /// Lays terms down by their nodes, those of the last term first. Their own nodes wait, that of the first term on top.
@@ -134,7 +181,7 @@ fn put_all(
 {
     let mut terms = terms;
     'terms: while let Some(node) = terms.pop() {
-        put_node(nodes, waiting, names, node)?;
+        put_read(nodes, waiting, names, node)?;
     }
     Ok(())
 }
@@ -217,7 +264,7 @@ pub fn lay_term(
     ensures names { Extends names.old names.new }
 {
     let mut waiting = stacked(alloc, nodes, names, terms, node.arity())?;
-    put_node(nodes, &mut waiting, names, node)?;
+    put_read(nodes, &mut waiting, names, node)?;
     let at = lay_row(nodes, &mut waiting, 1)?;
     Ok(at)
 }

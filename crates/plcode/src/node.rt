@@ -2,7 +2,7 @@
 
 /// A node. The blocks of a compound's arguments lie before its own, as on a heap, so a compound is put on a heap by one loop
 /// that adds an offset. A block is a `Fun` with so many nodes behind it, one for each argument.
-#[derive(Clone, Copy, Debug, PartialEq, Eq)]
+#[derive(Clone, Copy)]
 pub enum Node {
     /// The variable with this slot.
     Var(u32),

@@ -2,7 +2,7 @@
 
 /// What a step is. Branches are sequences of steps of their own, each of which ends with `Proceed`, and are given by the places where
 /// they begin.
-#[derive(Clone, Copy, Debug, PartialEq, Eq)]
+#[derive(Clone, Copy)]
 pub enum Op {
     /// A goal that is no control construct of branches: the term at the step's node.
     Goal,
@@ -19,7 +19,7 @@ pub enum Op {
 /// A step: what it is, how many conjunctions are selected on the way to it, and the node of its goal. A control construct of
 /// branches has its goal in them, and the end of a sequence has none: there the node is 0. A step costs as many steps of the search
 /// as it has conjunctions, and one. A sequence stands reversed: behind the step at a place comes the one before it.
-#[derive(Clone, Copy, Debug, PartialEq, Eq)]
+#[derive(Clone, Copy)]
 pub struct Step {
     pub op: Op,
     pub conjunctions: u32,

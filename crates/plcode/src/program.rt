@@ -10,9 +10,9 @@ ghost use Rattle.plcode.specs.declared.callee.Entry.{Entry as OfEntry};
 ghost use Rattle.plcode.specs.declared.callee.Number.{Number as OfNumber};
 ghost use Rattle.plcode.specs.declared.callee.Number.TheVariants.{Atom, Functor};
 ghost use Rattle.plcode.specs.Laying.{IsLaid};
-ghost use Rattle.plcode.specs.Steps.{goals_from, step_at, Meets};
+ghost use Rattle.plcode.specs.Steps.{goals_from, step_at, text, Meets};
 ghost use Rattle.plcode.specs.Bodies.{IsCode};
-ghost use Rattle.plcode.specs.Callees.{callee_at, found, of_clauses, of_kind, row_callee, statics, AreEntries, IsProgramCode};
+ghost use Rattle.plcode.specs.Callees.{callee_at, found, of_clauses, of_kind, row_callee, statics, AreEntries, IsNumbered, IsProgramCode};
 
 use crate::callee::{Callee, Callees, Entry, Number, number_of};
 use crate::code::Code;
@@ -50,27 +50,43 @@ fn procedure_callee(place: u32, clauses: &[Clause]) -> Callee
     }
 }
 
-/// The entries of rows of the table of names, whose names get their numbers.
-fn row_entries(
+/// The number of a procedure by its name's text, which gets its number.
+fn number_of_text(
     alloc: Global,
     names: &mut Names,
-    rows: &[(&'static str, u16, Kind)],
-) -> Result<Vec<Entry>, AllocError>
+    text: &'static str,
+    arity: u16,
+) -> Result<Option<Number>, AllocError>
     requires { IsTable names.old }
-    ensures entries { IfOk result (λ entries. AreEntries names.new (map row_callee (map row_of rows.now)) entries.items) }
+    ensures number { IfOk result (λ n. IsNumbered names.new (record { name = text.now; arity = arity }) n) }
     ensures extends { OnOk result (Extends names.old names.new) }
     ensures table { OnOk result (IsTable names.new) }
 {
-    let mut entries = Vec::new(alloc);
+    let name = Name::new(alloc, text)?;
+    number_of(names, &name, arity)
+}
+
+/// Puts the entries of rows of the table of names, whose names get their numbers, where there are none.
+fn put_rows(
+    alloc: Global,
+    names: &mut Names,
+    entries: &mut Vec<Entry>,
+    rows: &[(&'static str, u16, Kind)],
+) -> Result<(), AllocError>
+    requires table { IsTable names.old }
+    requires none { entries.old.items ≡ [] }
+    ensures entries { OnOk result (AreEntries names.new (map row_callee (map row_of rows.now)) entries.new.items) }
+    ensures extends { OnOk result (Extends names.old names.new) }
+    ensures table { OnOk result (IsTable names.new) }
+{
     for &(name, arity, kind) in rows {
-        let name = Name::new(alloc, name)?;
-        let number = number_of(names, &name, arity)?;
+        let number = number_of_text(alloc, names, name, arity)?;
         entries.push(Entry {
             number,
             callee: kind_callee(kind),
         })?;
     }
-    Ok(entries)
+    Ok(())
 }
 
 /// Adds the entries of a program's procedures, whose names get their numbers.
@@ -109,10 +125,25 @@ fn program_callees(
     ensures extends { OnOk result (Extends names.old names.new) }
     ensures table { OnOk result (IsTable names.new) }
 {
-    let mut entries = row_entries(alloc, names, ROWS)?;
+    let mut entries = Vec::new(alloc);
+    put_rows(alloc, names, &mut entries, ROWS)?;
     add_procedures(names, &mut entries, program)?;
     let callees = Callees::of(alloc, entries)?;
     Ok(callees)
+}
+
+/// Compiles the procedures of a program, and finds what is called by each number in it.
+fn compiled(
+    alloc: Global,
+    code: &mut Draft,
+    program: &Program,
+) -> Result<(Vec<Procedure>, Callees), AllocError>
+    requires { IsCode (text code.old) }
+    ensures { IfOk result (λ made. IsProgramCode program.now (record { text = text code.new; procedures = made.0.items; callees = made.1 })) }
+{
+    let procedures = compile_procedures(alloc, code, program)?;
+    let callees = program_callees(alloc, &mut code.names, program)?;
+    Ok((procedures, callees))
 }
 
 /// The code of a program: the names, nodes and steps of its clauses, its static procedures, in their order, and what is called by
@@ -144,8 +175,7 @@ impl ProgramCode {
         ensures end { IfOk result (λ made. goals_from made.text 0 0 ≡ []) }
     {
         let mut draft = Draft::new(alloc)?;
-        let procedures = compile_procedures(alloc, &mut draft, program)?;
-        let callees = program_callees(alloc, &mut draft.names, program)?;
+        let (procedures, callees) = compiled(alloc, &mut draft, program)?;
         let (code, names) = Code::of(draft);
         Ok(ProgramCode {
             names,

@@ -1,4 +1,4 @@
-use Rattle.std.proofs.Common.{◌≡◌, ◌∙◌, ◌∷◌, [], ◌++◌, ◌-◌, ◌<◌, List, length, take, drop, reverse, get_or, ap, sym, arith, append_assoc, length-drop}
+use Rattle.std.proofs.Common.{◌≡◌, ◌∙◌, ◌∷◌, [], ◌++◌, ◌-◌, ◌<◌, ℕ, List, length, take, drop, reverse, get_or, ap, sym, arith, append_assoc, length-drop}
 use Rattle.std.proofs.lemmas.List.{take_all}
 use Rattle.plcode.specs.declared.op.Step.{Step}
 use Rattle.plcode.specs.declared.op.Op.TheVariants as ops
@@ -40,3 +40,13 @@ returns-clause-made c =
     let s = c.args.made.now.items in
     let from = c.len.result - c.args.count in
     ap (λ (ss : List Step). reverse ss) c.truncate.ensures.items ∙ below_topmost s c.args.count from (omega (arith, c.len.ensures)) c.requires
+
+pub loop-place-init : goal.loop-place-init
+loop-place-init c =
+    let s = c.args.made.now.items in
+    let from = c.len.result - c.args.count in
+    let none : from - from ≡ 0 = omega arith in
+    record {
+      from = omega arith;
+      code = c.in_ok-push.ensures.items ∙ sym (ap (λ (k : ℕ). c.args.code.now.items ++ (step ops.Proceed 0 ++ take k (drop from s))) none);
+    }

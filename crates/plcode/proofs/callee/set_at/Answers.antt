@@ -1,4 +1,4 @@
-use Rattle.std.proofs.Common.{◌∙◌, ◌∷◌, [], List, ap, arith, length-append, get_or, length}
+use Rattle.std.proofs.Common.{◌∙◌, ◌∷◌, [], List, ap, arith, length-append, get_or, length, refl}
 use Rattle.plcode.specs.declared.callee.Callee.{Callee}
 use Rattle.plcode.specs.declared.callee.Callee.TheVariants.{Unknown}
 use Rattle.plcode.proofs.Callees.{unknown_last}
@@ -12,3 +12,6 @@ loop-preserved c =
       len = omega (arith, ap length push.items, length-append c.loop.callees.items (Unknown ∷ []), inv.len);
       same = λ i. ap (λ (cs : List Callee). get_or cs i Unknown) push.items ∙ unknown_last c.loop.callees.items i ∙ inv.same i;
     }
+
+pub loop-init : goal.loop-init
+loop-init c = record { len = omega (arith, c.len-counter.ensures); same = λ i. refl }

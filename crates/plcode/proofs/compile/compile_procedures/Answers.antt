@@ -1,5 +1,5 @@
-use Rattle.std.proofs.Common.{◌∙◌, ◌+◌, List, [], ◌∷◌, ◌++◌, take, sym, ap, subst}
-use Rattle.std.proofs.lemmas.List.{take_more}
+use Rattle.std.proofs.Common.{◌≡◌, ◌∙◌, ◌+◌, List, [], ◌∷◌, ◌++◌, take, sym, ap, subst, arith}
+use Rattle.std.proofs.lemmas.List.{take_all, take_more}
 use Rattle.std.proofs.lemmas.Option.{slice_get_within, get_or_from_slice_get}
 use Rattle.plterm.specs.declared.indicator.Indicator.{Indicator}
 use Rattle.plclause.specs.Clause.{Clause}
@@ -7,7 +7,7 @@ use Rattle.plprogram.specs.Program.{AreOwn}
 use Rattle.plcode.specs.declared.clause.ClauseCode.{ClauseCode}
 use Rattle.plcode.specs.Steps.{text}
 use Rattle.plcode.specs.Clauses.{AreCodeOf, AreProcedures}
-use Rattle.plcode.proofs.Stays.{Extended-trans}
+use Rattle.plcode.proofs.Stays.{Extended-refl, Extended-trans}
 use Rattle.plcode.proofs.Clauses.{AreProcedures-more, AreProcedures-put, AreOwn-put}
 use Rattle.plcode.proofs.compile.compile_procedures.Goals as goal
 
@@ -35,3 +35,22 @@ loop-index-preserved c =
           (subst One (sym c.in_ok-procedure.ensures) e.clauses)));
       own = subst AreOwn (sym taken) (AreOwn-put (take i es) entry invariant.own c.procedure_at.ensures.own);
     }
+
+pub loop-index-init : goal.loop-index-init
+loop-index-init c =
+    let d = text c.args.code.now in
+    let P : List (List ClauseCode) → Type 0 = λ kss. AreProcedures d kss [] in
+    record { code = c.requires.code; extended = Extended-refl d; procedures = subst P (sym c.new-made.ensures.items) tt; own = tt }
+
+-- the procedures are all gone over
+gone : (c : goal.After-loop-index) → take c.loop-index.index c.args.program.now.procedures ≡ c.args.program.now.procedures
+gone c = take_all c.loop-index.index c.args.program.now.procedures (omega (arith, c.loop-index-test.false, c.procedure_count-index-end.ensures))
+
+pub returns-clause-extended : goal.returns-clause-extended
+returns-clause-extended c = c.loop-index.invariant.extended
+
+pub returns-clause-procedures : goal.returns-clause-procedures
+returns-clause-procedures c = subst (AreProcedures (text c.loop-index.code) c.loop-index.made.items) (gone c) c.loop-index.invariant.procedures
+
+pub returns-clause-own : goal.returns-clause-own
+returns-clause-own c = subst AreOwn (gone c) c.loop-index.invariant.own

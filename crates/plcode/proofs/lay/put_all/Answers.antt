@@ -10,14 +10,14 @@ terms-init c =
     let P : List Node → Type 0 = λ w. Placing c.args.names.now c.args.names.now c.args.nodes.now.items c.args.nodes.now.items w c.args.terms.items c.args.terms.items in
     subst P (sym (ap (reverse {A = Node}) c.requires.none)) (placing_none c.args.names.now c.args.nodes.now.items c.args.terms.items c.requires.laid)
 
-pub put_node-requires-clause-fits : goal.put_node-requires-clause-fits
-put_node-requires-clause-fits c = placing_fits _ _ _ _ _ _ _ _ c.in-Some.node c.requires.forest c.terms.invariant c.in-Some.ensures.items
+pub put_read-requires-clause-fits : goal.put_read-requires-clause-fits
+put_read-requires-clause-fits c = placing_fits _ _ _ _ _ _ _ _ c.in-Some.node c.requires.forest c.terms.invariant c.in-Some.ensures.items
 
-pub put_node-requires-clause-room : goal.put_node-requires-clause-room
-put_node-requires-clause-room c =
+pub put_read-requires-clause-room : goal.put_read-requires-clause-room
+put_read-requires-clause-room c =
     omega (arith, length-reverse c.terms.waiting.items, placing_room _ _ _ _ _ _ _ _ c.in-Some.node c.requires.forest c.terms.invariant c.in-Some.ensures.items)
 
 pub terms-preserved : goal.terms-preserved
 terms-preserved c =
-    let e = c.in_ok-put_node.ensures in
-    placing_next _ _ _ _ _ _ _ _ c.in-Some.node c.requires.forest c.terms.invariant c.in-Some.ensures.items _ _ _ c.put_node.ensures.names e.grows (e.waits (reading c.terms.invariant.done) c.terms.invariant.waits)
+    let e = c.in_ok-put_read.ensures in
+    placing_next _ _ _ _ _ _ _ _ c.in-Some.node c.requires.forest c.terms.invariant c.in-Some.ensures.items _ _ _ c.put_read.ensures.names e.grows (e.waits (reading c.terms.invariant.done) c.terms.invariant.waits)

@@ -1,7 +1,7 @@
-use Rattle.std.proofs.Common.{◌≡◌, ◌∙◌, ◌∷◌, [], ◌++◌, List, take, drop, reverse, ap, sym, append_assoc}
-use Rattle.std.proofs.lemmas.List.{reverse-append}
+use Rattle.std.proofs.Common.{◌≡◌, ◌<◌, ◌^◌, ◌∙◌, ◌∷◌, [], ◌++◌, ℕ, List, length, take, drop, reverse, refl, ap, subst, sym, append_assoc, append-nil, arith}
+use Rattle.std.proofs.lemmas.List.{length-reverse, reverse-append}
 use Rattle.plcode.specs.declared.node.Node.{Node}
-use Rattle.plcode.specs.Laying.{lower}
+use Rattle.plcode.specs.Laying.{lower, lowest}
 use Rattle.plcode.proofs.Rows.{take-next, drop-next, fold-next}
 use Rattle.plcode.proofs.lay.put_row.Goals as goal
 
@@ -22,3 +22,27 @@ loop-preserved c =
       waiting = sym (drop-next c.loop.counter s left n next);
       low = c.lower-low.ensures ∙ ap (λ low. lower low n) i.low ∙ sym (fold-next lower c.args.end c.loop.counter s left n next);
     }
+
+pub loop-init : goal.loop-init
+loop-init c = record {
+  room = omega (arith, length-reverse c.args.waiting.now.items, c.requires);
+  nodes = sym (append-nil c.args.nodes.now.items);
+  waiting = refl;
+  low = refl;
+}
+
+-- as many nodes are moved as are asked for
+moved : (c : goal.In_ok-few) → c.loop.counter ≡ c.args.count
+moved c = omega (arith, c.loop.auto.counter-end, c.loop-test.false)
+
+pub returns-clause-nodes : goal.returns-clause-nodes
+returns-clause-nodes c = c.loop.invariant.nodes ∙ ap (λ (k : ℕ). c.args.nodes.now.items ++ take k (reverse c.args.waiting.now.items)) (moved c)
+
+pub returns-clause-few : goal.returns-clause-few
+returns-clause-few c = let P : List Node → Type 0 = λ ns. length ns < 2 ^ 32 in subst P c.as_slice.ensures.value c.in_ok-few.ensures
+
+pub returns-clause-waiting : goal.returns-clause-waiting
+returns-clause-waiting c = c.loop.invariant.waiting ∙ ap (λ (k : ℕ). drop k (reverse c.args.waiting.now.items)) (moved c)
+
+pub returns-clause-lowest : goal.returns-clause-lowest
+returns-clause-lowest c = c.loop.invariant.low ∙ ap (λ (k : ℕ). lowest c.args.end (take k (reverse c.args.waiting.now.items))) (moved c)

@@ -2,7 +2,7 @@ use Rattle.std.proofs.Common.{map, take}
 use Rattle.plnames.specs.Entries.{row_of}
 use Rattle.platoms.specs.Names.{Extends, IsTable}
 use Rattle.plcode.specs.Callees.{row_callee, AreEntries}
-use Rattle.plcode.proofs.program.row_entries.Given as goal
+use Rattle.plcode.proofs.program.put_rows.Given as goal
 
 abbrev pub invariant-loop-name : goal.invariant-loop-name
 invariant-loop-name l = record {
