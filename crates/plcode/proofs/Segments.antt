@@ -11,7 +11,7 @@ use Rattle.plcode.specs.declared.op.Step.{Step}
 use Rattle.plcode.specs.declared.body.Part.{Part}
 use Rattle.plcode.specs.declared.body.Arrow.{Arrow}
 use Rattle.plcode.specs.Steps.{Text, Extended, Args, of_two, ends, paired, joined, IsFor}
-use Rattle.plcode.specs.Bodies.{arrow_of, charged, step, merged, Begins, AreFor, Segment, Awaits, Known, Made, Branches, IsNoArrow, IsCode}
+use Rattle.plcode.specs.Bodies.{arrow_of, charged, step, merged, Begins, AreFor, Segment, Awaits, Known, Made, Branches, HasTwo, IsNoArrow, IsCode}
 use Rattle.plcode.proofs.Meanings.{length-joined}
 use Rattle.plcode.proofs.Stays.{Extended-trans, IsBranch-more, steps_more}
 use Rattle.plcode.proofs.Pushing.{with_steps, AreFor-more, sequence_code, sequence_begins, sequence_extended}
@@ -203,6 +203,25 @@ made_joined c (p ∷ q ∷ ps) xs g a b rest is h =
           (segment_join c g a b (take p.len xs) (take q.len (drop p.len xs)) is (omega (arith, h.0, h.1, length-take p.len xs)) h.3 behind.3),
       subst Q (sym (drop-charged p.len q.len xs h.0 h.1)) behind.4,
     )
+
+-- ---- parts of which there are two
+
+pub two_none : (ps : List Part) (n : ℕ) → HasTwo (reverse ps) n → ps ≡ [] → ⊥
+two_none ps n two none = let P : List Part → Type 0 = λ v. HasTwo (reverse v) n in subst P none two
+
+pub two_one : (ps less : List Part) (p : Part) (n : ℕ) → HasTwo (reverse ps) n → ps ≡ less ++ p ∷ [] → less ≡ [] → ⊥
+two_one ps less p n two top none =
+    let P : List Part → Type 0 = λ v. HasTwo (reverse v) n in
+    let Q : List Part → Type 0 = λ v. HasTwo (reverse (v ++ p ∷ [])) n in
+    subst Q none (subst P top two)
+
+some_steps : (ps : List Part) (n : ℕ) → HasTwo ps n → 0 < n
+some_steps [] n two = absurd two
+some_steps (p ∷ []) n two = absurd two
+some_steps (p ∷ q ∷ ps) n two = omega (arith, two.0, two.1)
+
+pub two_steps : (ps : List Part) (steps : List Step) → HasTwo ps (length steps) → steps ≡ [] → ⊥
+two_steps ps steps two none = omega (arith, some_steps ps (length steps) two, ap length none)
 
 -- ---- one part more
 

@@ -183,10 +183,7 @@ fn put_either(
     ensures goal { OnOk result ((g : Tree) → (rest gs : List Tree) → Holds (codes ";") g rest gs → Made (text code.old) (reverse parts.old.items) (reverse made.old.items) gs → Made (text code.new) (reverse parts.new.items) (reverse made.new.items) (g ∷ rest)) }
 {
     match top_arrow(parts) {
-        Some(arrow) => {
-            put_else(code, parts, made, arrow)?;
-            Ok(())
-        }
+        Some(arrow) => put_else(code, parts, made, arrow),
         None => {
             let (left, right) = put_branches(code, parts, made)?;
             push_part(parts, made, Op::Or(left, right), 0, None)?;
@@ -233,14 +230,8 @@ fn put_piece(
             join(parts, made)?;
             Ok(())
         }
-        Piece::Or => {
-            put_either(code, parts, made)?;
-            Ok(())
-        }
-        Piece::IfThen => {
-            put_arrow(code, parts, made)?;
-            Ok(())
-        }
+        Piece::Or => put_either(code, parts, made),
+        Piece::IfThen => put_arrow(code, parts, made),
         Piece::Single(node) => {
             push_part(parts, made, Op::Goal, node, None)?;
             Ok(())
@@ -303,6 +294,5 @@ pub fn compile_body(
     ensures begins { IfOk result (λ at. Begins (text code.new) at body.now) }
 {
     let pieces = pieces_of(alloc, code, kinds, body)?;
-    let at = put_body(alloc, code, pieces)?;
-    Ok(at)
+    put_body(alloc, code, pieces)
 }

@@ -102,14 +102,8 @@ impl Callees {
         ensures { OnOk result ((n : OfNumber) → callee_at self.new n ≡ (if is_of entry.number n then entry.callee else callee_at self.old n)) }
     {
         match entry.number {
-            Some(Number::Atom(atom)) => {
-                set_at(&mut self.atoms, atom, entry.callee)?;
-                Ok(())
-            }
-            Some(Number::Functor(functor)) => {
-                set_at(&mut self.functors, functor, entry.callee)?;
-                Ok(())
-            }
+            Some(Number::Atom(atom)) => set_at(&mut self.atoms, atom, entry.callee),
+            Some(Number::Functor(functor)) => set_at(&mut self.functors, functor, entry.callee),
             None => Ok(()),
         }
     }

@@ -77,10 +77,7 @@ pub fn head_key(code: &mut Draft, head: &TermRef<'_>) -> Result<Key, AllocError>
 {
     match head.shape() {
         Shape::Compound(_, mut args) => match args.next_term() {
-            Some(first) => {
-                let key = key_of(code, &first)?;
-                Ok(key)
-            }
+            Some(first) => key_of(code, &first),
             None => Ok(Key::Any),
         },
         Shape::Var(_) | Shape::Int(_) | Shape::Atom(_) => Ok(Key::Any),

@@ -138,14 +138,8 @@ fn put_node(
             waiting.push(Node::Int(*number))?;
             Ok(())
         }
-        TermNode::Atom(name) => {
-            put_atom(waiting, names, name)?;
-            Ok(())
-        }
-        TermNode::Compound(name, arity) => {
-            put_compound(nodes, waiting, names, name, *arity)?;
-            Ok(())
-        }
+        TermNode::Atom(name) => put_atom(waiting, names, name),
+        TermNode::Compound(name, arity) => put_compound(nodes, waiting, names, name, *arity),
     }
 }
 

@@ -3,6 +3,8 @@ use Rattle.std.proofs.lemmas.List.{reverse-append}
 use Rattle.plcode.specs.declared.op.Step.{Step}
 use Rattle.plcode.specs.declared.body.Part.{Part}
 use Rattle.plcode.specs.Bodies.{charged, merged}
+use Rattle.plcode.proofs.Segments.{two_none, two_one, two_steps}
+use Rattle.plcode.proofs.Rows.{popped_none}
 use Rattle.plcode.proofs.body.join.Goals as goal
 
 parts_joined : (old less left new : List Part) (p q : Part) → old ≡ less ++ p ∷ [] → less ≡ left ++ q ∷ [] → new ≡ left ++ record { len = p.len + q.len; arrow = None } ∷ []
@@ -25,3 +27,17 @@ returns-clause-parts c = parts_joined _ _ _ _ _ _ c.in-Some.ensures.items c.in-S
 
 pub returns-clause-made : goal.returns-clause-made
 returns-clause-made c = step_charged _ _ _ c.in-Some-pop-2.step _ c.in-Some-pop-2.ensures.items c.in_ok-push.ensures.items (omega (arith, c.in-Some-checked_add.ensures))
+
+pub unreachable-requires : goal.unreachable-requires
+unreachable-requires c =
+    two_none c.args.parts.now.items _ c.requires (popped_none c.args.parts.now.items c.pop.new.self.items _ c.in_default.ensures.items c.in_default.ensures.rest (omega (arith, c.args.parts.now.ok.0)))
+
+pub unreachable-requires-in_default-pop : goal.unreachable-requires-in_default-pop
+unreachable-requires-in_default-pop c =
+    two_one c.args.parts.now.items c.pop.new.self.items c.in-Some.first _ c.requires c.in-Some.ensures.items
+    (popped_none c.pop.new.self.items c.pop-2.new.self.items _ c.in_default-pop.ensures.items c.in_default-pop.ensures.rest (omega (arith, c.pop.new.self.ok.0)))
+
+pub unreachable-requires-in_default-pop-2 : goal.unreachable-requires-in_default-pop-2
+unreachable-requires-in_default-pop-2 c =
+    two_steps (reverse c.args.parts.now.items) c.args.made.now.items c.requires
+    (popped_none c.args.made.now.items c.pop-3.new.self.items _ c.in_default-pop-2.ensures.items c.in_default-pop-2.ensures.rest (omega (arith, c.args.made.now.ok.0)))

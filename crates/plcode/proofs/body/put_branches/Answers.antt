@@ -1,10 +1,11 @@
-use Rattle.std.proofs.Common.{◌≡◌, ◌∙◌, ◌∷◌, [], List, reverse, subst, ap}
+use Rattle.std.proofs.Common.{◌≡◌, ◌∙◌, ◌∷◌, [], List, reverse, subst, ap, arith}
 use Rattle.std.proofs.lemmas.List.{reverse-append}
 use Rattle.plterm.specs.Tree.{Tree}
 use Rattle.plcode.specs.declared.body.Part.{Part}
 use Rattle.plcode.specs.Steps.{text}
 use Rattle.plcode.specs.Bodies.{Made}
-use Rattle.plcode.proofs.Segments.{branches_put, branches_code, branches_extended}
+use Rattle.plcode.proofs.Segments.{two_none, two_one, branches_put, branches_code, branches_extended}
+use Rattle.plcode.proofs.Rows.{popped_none}
 use Rattle.plcode.proofs.body.put_branches.Goals as goal
 
 -- the two topmost parts, as they were taken off
@@ -40,3 +41,12 @@ returns-clause-extended c =
     let m = c.requires.made in
     branches_extended (text c.args.code.now) c.requires.code _ _ c.in-Some.left c.in-Some-pop.right (reverse c.pop-2.new.self.items) _ _ _ _ _ e.code e.place e.made f.code f.place f.made
     m.first m.second m.rest (parted c m.first m.second m.rest m.made)
+
+pub unreachable-requires : goal.unreachable-requires
+unreachable-requires c =
+    two_none c.args.parts.now.items _ c.requires.two (popped_none c.args.parts.now.items c.pop.new.self.items _ c.in_default.ensures.items c.in_default.ensures.rest (omega (arith, c.args.parts.now.ok.0)))
+
+pub unreachable-requires-in_default-pop : goal.unreachable-requires-in_default-pop
+unreachable-requires-in_default-pop c =
+    two_one c.args.parts.now.items c.pop.new.self.items c.in-Some.left _ c.requires.two c.in-Some.ensures.items
+    (popped_none c.pop.new.self.items c.pop-2.new.self.items _ c.in_default-pop.ensures.items c.in_default-pop.ensures.rest (omega (arith, c.pop.new.self.ok.0)))

@@ -1,11 +1,12 @@
-use Rattle.std.proofs.Common.{◌≡◌, ◌∙◌, ◌∷◌, [], List, Some, drop, reverse, refl, subst, ap, sym, codes}
+use Rattle.std.proofs.Common.{◌≡◌, ◌∙◌, ◌∷◌, [], List, Some, drop, reverse, refl, subst, ap, sym, codes, arith}
 use Rattle.std.proofs.lemmas.List.{reverse-append}
 use Rattle.plterm.specs.Tree.{Tree}
 use Rattle.plcode.specs.declared.body.Part.{Part}
 use Rattle.plcode.specs.declared.op.Step.{Step}
 use Rattle.plcode.specs.Steps.{text, of_two}
 use Rattle.plcode.specs.Bodies.{arrow_of, Made}
-use Rattle.plcode.proofs.Segments.{else_put, else_code, else_extended}
+use Rattle.plcode.proofs.Segments.{two_none, two_one, two_steps, else_put, else_code, else_extended}
+use Rattle.plcode.proofs.Rows.{popped_none}
 use Rattle.plcode.proofs.body.put_else.Goals as goal
 
 module _ (c : goal.In_ok-push_part) where
@@ -56,3 +57,17 @@ returns-clause-extended c =
     else_extended (text c.args.code.now) c.requires.code c.put_sequence.new.code.items c.args.arrow c.in-Some.field-0 c.in-Some-pop.right (ps c) (reverse c.args.made.now.items)
     (reverse c.pop-3.new.self.items) _ c.in_ok-otherwise.otherwise (top c) (popped c) e.code e.place e.made (of_two (codes ";") m.first m.second) m.first m.second m.rest refl
     (parted c m.first m.second m.rest m.made)
+
+pub unreachable-requires : goal.unreachable-requires
+unreachable-requires c =
+    two_none c.args.parts.now.items _ c.requires.two (popped_none c.args.parts.now.items c.pop.new.self.items _ c.in_default.ensures.items c.in_default.ensures.rest (omega (arith, c.args.parts.now.ok.0)))
+
+pub unreachable-requires-in_default-pop : goal.unreachable-requires-in_default-pop
+unreachable-requires-in_default-pop c =
+    two_one c.args.parts.now.items c.pop.new.self.items c.in-Some.field-0 _ c.requires.two c.in-Some.ensures.items
+    (popped_none c.pop.new.self.items c.pop-2.new.self.items _ c.in_default-pop.ensures.items c.in_default-pop.ensures.rest (omega (arith, c.pop.new.self.ok.0)))
+
+pub unreachable-requires-in_default-pop-2 : goal.unreachable-requires-in_default-pop-2
+unreachable-requires-in_default-pop-2 c =
+    two_steps (reverse c.args.parts.now.items) c.args.made.now.items c.requires.two
+    (popped_none c.args.made.now.items c.pop-3.new.self.items _ c.in_default-pop-2.ensures.items c.in_default-pop-2.ensures.rest (omega (arith, c.args.made.now.ok.0)))

@@ -1,4 +1,5 @@
 use Rattle.std.proofs.Common.{List, reverse, subst, sym}
+use Rattle.std.proofs.lemmas.Result.{on_ok_weaker}
 use Rattle.plterm.specs.Tree.{Tree}
 use Rattle.plcode.specs.declared.body.Piece.{Piece}
 use Rattle.plcode.specs.declared.body.Piece.TheVariants.{And, Or, IfThen, Single}
@@ -32,12 +33,14 @@ returns-in_ok-join-in-And-clause-goal c gs hs split h =
     (rw (c.in_ok-join-in-And.ensures.parts, c.in_ok-join-in-And.ensures.made)
     (made_joined t ps xs s.goal holds.first holds.second s.rest holds.is (subst P holds.next h)))
 
-pub returns-in_ok-put_arrow-in-IfThen-clause-goal : goal.returns-in_ok-put_arrow-in-IfThen-clause-goal
-returns-in_ok-put_arrow-in-IfThen-clause-goal c gs hs split h =
+pub returns-in-IfThen-clause-goal : goal.returns-in-IfThen-clause-goal
+returns-in-IfThen-clause-goal c = on_ok_weaker c.put_arrow.result
+    (λ put gs hs split h.
     let S : Piece → Type 0 = λ p. Splits (text c.args.code.now) p gs hs in
     let s : Splits (text c.args.code.now) IfThen gs hs = subst S c.in-IfThen.is split in
     let Q : List Tree → Type 0 = Made (text c.put_arrow.new.code) (reverse c.put_arrow.new.parts.items) (reverse c.put_arrow.new.made.items) in
-    subst Q (sym s.before) (c.in_ok-put_arrow-in-IfThen.ensures.goal s.goal s.rest hs s.means h)
+    subst Q (sym s.before) (put s.goal s.rest hs s.means h))
+    c.put_arrow.ensures.goal
 
 pub returns-in_ok-push_part-in-Single-clause-goal : goal.returns-in_ok-push_part-in-Single-clause-goal
 returns-in_ok-push_part-in-Single-clause-goal c gs hs split h =
@@ -54,9 +57,11 @@ returns-in_ok-push_part-in-Single-clause-goal c gs hs split h =
     (rw (c.in_ok-push_part-in-Single.ensures.parts, c.in_ok-push_part-in-Single.ensures.made)
     (made_goal t node ps xs s.goal s.rest m.no_arrow m.node (subst P m.next h)))
 
-pub returns-in_ok-put_either-in-Or-clause-goal : goal.returns-in_ok-put_either-in-Or-clause-goal
-returns-in_ok-put_either-in-Or-clause-goal c gs hs split h =
+pub returns-in-Or-clause-goal : goal.returns-in-Or-clause-goal
+returns-in-Or-clause-goal c = on_ok_weaker c.put_either.result
+    (λ put gs hs split h.
     let S : Piece → Type 0 = λ p. Splits (text c.args.code.now) p gs hs in
     let s : Splits (text c.args.code.now) Or gs hs = subst S c.in-Or.is split in
     let Q : List Tree → Type 0 = Made (text c.put_either.new.code) (reverse c.put_either.new.parts.items) (reverse c.put_either.new.made.items) in
-    subst Q (sym s.before) (c.in_ok-put_either-in-Or.ensures.goal s.goal s.rest hs s.means h)
+    subst Q (sym s.before) (put s.goal s.rest hs s.means h))
+    c.put_either.ensures.goal

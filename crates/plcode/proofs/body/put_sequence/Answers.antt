@@ -1,4 +1,4 @@
-use Rattle.std.proofs.Common.{◌≡◌, ◌∙◌, ◌∷◌, [], ◌++◌, ◌-◌, ◌<◌, ℕ, List, length, take, drop, reverse, get_or, ap, sym, arith, append_assoc, length-drop}
+use Rattle.std.proofs.Common.{◌≡◌, ◌∙◌, ◌∷◌, [], ◌++◌, ◌-◌, ◌<◌, ℕ, List, length, take, drop, reverse, get_or, ap, sym, arith, append_assoc, length-append, length-drop, length-take}
 use Rattle.std.proofs.lemmas.List.{take_all}
 use Rattle.plcode.specs.declared.op.Step.{Step}
 use Rattle.plcode.specs.declared.op.Op.TheVariants as ops
@@ -50,3 +50,11 @@ loop-place-init c =
       from = omega arith;
       code = c.in_ok-push.ensures.items ∙ sym (ap (λ (k : ℕ). c.args.code.now.items ++ (step ops.Proceed 0 ++ take k (drop from s))) none);
     }
+
+pub returns-clause-place : goal.returns-clause-place
+returns-clause-place c =
+    let s = c.args.made.now.items in
+    let old = c.args.code.now.items in
+    let from = c.len.result - c.args.count in
+    let put = take (c.loop-place.place - from) (drop from s) in
+    omega (arith, ap length c.loop-place.invariant.code, length-append old (step ops.Proceed 0 ++ put), length-take (c.loop-place.place - from) (drop from s), length-drop from s)

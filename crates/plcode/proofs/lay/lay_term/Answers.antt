@@ -39,3 +39,15 @@ returns-clause-grows c =
 
 pub returns-clause-names : goal.returns-clause-names
 returns-clause-names c = Extends-trans c.args.names.now c.stacked.new.names c.put_read.new.names c.in_ok-waiting.ensures.names c.in_ok-put_read.ensures.names
+
+pub put_read-requires-clause-fits : goal.put_read-requires-clause-fits
+put_read-requires-clause-fits c = c.requires.fits
+
+pub returns-in_err-waiting-clause-names : goal.returns-in_err-waiting-clause-names
+returns-in_err-waiting-clause-names c = c.stacked.ensures.names
+
+pub returns-in_err-put_read-clause-names : goal.returns-in_err-put_read-clause-names
+returns-in_err-put_read-clause-names c = Extends-trans c.args.names.now c.stacked.new.names c.put_read.new.names c.in_ok-waiting.ensures.names c.put_read.ensures.names
+
+pub returns-in_err-at-clause-names : goal.returns-in_err-at-clause-names
+returns-in_err-at-clause-names c = Extends-trans c.args.names.now c.stacked.new.names c.put_read.new.names c.in_ok-waiting.ensures.names c.in_ok-put_read.ensures.names

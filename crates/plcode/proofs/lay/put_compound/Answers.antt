@@ -2,7 +2,7 @@ use Rattle.std.proofs.Common.{◌≡◌, ◌<◌, ◌^◌, ◌≤◌, ◌∙◌,
 use Rattle.std.proofs.lemmas.List.{length-reverse}
 use Rattle.plterm.specs.Tree.{compound, trees}
 use Rattle.platoms.specs.Names.{atom_at, functor_name}
-use Rattle.platoms.proofs.Extending.{atom_same, Extends-trans}
+use Rattle.platoms.proofs.Extending.{atom_same}
 use Rattle.plcode.specs.declared.node.Node.{Node}
 use Rattle.plcode.specs.declared.node.Node.TheVariants.{Fun, Sub}
 use Rattle.plcode.specs.Laying.{lowest, Waits}

@@ -1,8 +1,8 @@
-use Rattle.std.proofs.Common.{◌≡◌, ◌<◌, ◌^◌, ◌∙◌, ◌∷◌, [], ◌++◌, ℕ, List, length, take, drop, reverse, refl, ap, subst, sym, append_assoc, append-nil, arith}
+use Rattle.std.proofs.Common.{◌≡◌, ◌<◌, ◌^◌, ◌∙◌, ◌∷◌, [], ◌++◌, ℕ, List, length, take, drop, reverse, refl, ap, subst, sym, append_assoc, append-nil, arith, length-drop}
 use Rattle.std.proofs.lemmas.List.{length-reverse, reverse-append}
 use Rattle.plcode.specs.declared.node.Node.{Node}
 use Rattle.plcode.specs.Laying.{lower, lowest}
-use Rattle.plcode.proofs.Rows.{take-next, drop-next, fold-next}
+use Rattle.plcode.proofs.Rows.{popped_none, take-next, drop-next, fold-next}
 use Rattle.plcode.proofs.lay.put_row.Goals as goal
 
 pub loop-preserved : goal.loop-preserved
@@ -46,3 +46,9 @@ returns-clause-waiting c = c.loop.invariant.waiting ∙ ap (λ (k : ℕ). drop k
 
 pub returns-clause-lowest : goal.returns-clause-lowest
 returns-clause-lowest c = c.loop.invariant.low ∙ ap (λ (k : ℕ). lowest c.args.end (take k (reverse c.args.waiting.now.items))) (moved c)
+
+pub unreachable-requires : goal.unreachable-requires
+unreachable-requires c =
+    let s = reverse c.args.waiting.now.items in
+    let none : c.loop.waiting.items ≡ [] = popped_none c.loop.waiting.items c.pop.new.self.items _ c.in_default.ensures.items c.in_default.ensures.rest (omega (arith, c.loop.waiting.ok.0)) in
+    omega (arith, c.loop.invariant.room, c.loop-test.true, ap length c.loop.invariant.waiting, length-drop c.loop.counter s, ap length none, length-reverse c.loop.waiting.items)
