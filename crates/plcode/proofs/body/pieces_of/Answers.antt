@@ -1,10 +1,10 @@
-use Rattle.std.proofs.Common.{◌∷◌, [], List, subst, sym}
+use Rattle.std.proofs.Common.{rules, ◌∷◌, [], List, subst, sym}
 use Rattle.plterm.specs.Tree.{Tree}
 use Rattle.plcode.specs.Steps.{text}
 use Rattle.plcode.specs.Bodies.{Leads, Splits}
 use Rattle.plcode.specs.declared.body.Piece.{Piece}
 use Rattle.plcode.proofs.Folds.{Leads-more, Leads-push}
-use Rattle.plcode.proofs.Stays.{Extended-trans}
+use Rattle.plcode.proofs.Stays.{Extended-trans, Extended-refl}
 use Rattle.plcode.proofs.body.pieces_of.Goals as goal
 
 pub goals-preserved : goal.goals-preserved
@@ -22,3 +22,8 @@ goals-preserved c =
           (Leads-more (text c.goals.code) d c.goals.pieces.items (c.args.body.now ∷ []) c.goals.goals i.code.laid e.extended i.leads)
           (subst P (sym c.in-Some.ensures.before) e.splits));
     }
+
+pub goals-init : goal.goals-init
+goals-init c =
+    let d = text c.args.code.now in
+    record { code = c.requires.code; extended = Extended-refl d; leads = search rules }

@@ -7,6 +7,7 @@ use Rattle.plcode.specs.Steps.{text}
 use Rattle.plcode.specs.Bodies.{Made, Splits, IsNext}
 use Rattle.plcode.proofs.Segments.{made_joined, made_goal}
 use Rattle.plcode.proofs.Folds.{two_either, two_arrow}
+use Rattle.plcode.proofs.Stays.{Extended-refl}
 use Rattle.plcode.proofs.body.put_piece.Goals as goal
 
 pub put_either-requires-clause-made : goal.put_either-requires-clause-made
@@ -65,3 +66,9 @@ returns-in-Or-clause-goal c = on_ok_weaker c.put_either.result
     let Q : List Tree → Type 0 = Made (text c.put_either.new.code) (reverse c.put_either.new.parts.items) (reverse c.put_either.new.made.items) in
     subst Q (sym s.before) (put s.goal s.rest hs s.means h))
     c.put_either.ensures.goal
+
+pub returns-in_ok-join-in-And-clause-extended : goal.returns-in_ok-join-in-And-clause-extended
+returns-in_ok-join-in-And-clause-extended c = Extended-refl (text c.args.code.now)
+
+pub returns-in_ok-push_part-in-Single-clause-extended : goal.returns-in_ok-push_part-in-Single-clause-extended
+returns-in_ok-push_part-in-Single-clause-extended c = Extended-refl (text c.args.code.now)

@@ -6,7 +6,7 @@ use Rattle.plsearch.specs.Forms.{arguments}
 use Rattle.plcode.specs.Laying.{IsRow}
 use Rattle.plcode.specs.Steps.{text, Args}
 use Rattle.plcode.proofs.Goals.{no_args}
-use Rattle.plcode.proofs.Stays.{relaid_code}
+use Rattle.plcode.proofs.Stays.{relaid_code, Extended-refl, relaid_extended}
 use Rattle.plcode.proofs.clause.lay_arguments.Goals as goal
 
 pub returns-in_ok-at-in-Compound-clause-row : goal.returns-in_ok-at-in-Compound-clause-row
@@ -37,3 +37,10 @@ returns-in_ok-at-in-Compound-clause-proper c none =
 
 pub returns-in-Atom-clause-proper : goal.returns-in-Atom-clause-proper
 returns-in-Atom-clause-proper c none = (c.in-Atom.field-0.now, sym c.in-Atom.ensures.shown)
+
+pub returns-in-Atom-clause-extended : goal.returns-in-Atom-clause-extended
+returns-in-Atom-clause-extended c = Extended-refl (text c.args.code.now)
+
+pub returns-in_ok-at-in-Compound-clause-extended : goal.returns-in_ok-at-in-Compound-clause-extended
+returns-in_ok-at-in-Compound-clause-extended c =
+    let e = c.in_ok-at-in-Compound.ensures in relaid_extended (text c.args.code.now) c.lay.new.names c.lay.new.nodes.items e.names e.grows

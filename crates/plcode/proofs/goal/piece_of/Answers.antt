@@ -4,7 +4,7 @@ use Rattle.plterm.specs.Reading.{arity, read}
 use Rattle.plcode.specs.Laying.{IsRow}
 use Rattle.plcode.specs.Steps.{text}
 use Rattle.plcode.proofs.Goals.{split_two, split_laid, spelled_less}
-use Rattle.plcode.proofs.Stays.{relaid_code}
+use Rattle.plcode.proofs.Stays.{relaid_code, Extended-refl, relaid_extended}
 use Rattle.plcode.proofs.goal.piece_of.Goals as goal
 
 pub returns-in-Some-clause-splits : goal.returns-in-Some-clause-splits
@@ -28,3 +28,10 @@ pub returns-in_ok-at-in-None-clause-code : goal.returns-in_ok-at-in-None-clause-
 returns-in_ok-at-in-None-clause-code c =
     let e = c.in_ok-at-in-None.ensures in
     relaid_code (text c.args.code.now) c.lay_term.new.names c.lay_term.new.nodes.items e.names e.grows c.requires.code e.laid
+
+pub returns-in-Some-clause-extended : goal.returns-in-Some-clause-extended
+returns-in-Some-clause-extended c = Extended-refl (text c.args.code.now)
+
+pub returns-in_ok-at-in-None-clause-extended : goal.returns-in_ok-at-in-None-clause-extended
+returns-in_ok-at-in-None-clause-extended c =
+    let e = c.in_ok-at-in-None.ensures in relaid_extended (text c.args.code.now) c.lay_term.new.names c.lay_term.new.nodes.items e.names e.grows
