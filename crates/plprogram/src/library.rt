@@ -81,9 +81,17 @@ impl Program {
     pub fn with_library(self, alloc: Global, library: &Program) -> Result<Program, AllocError>
         ensures { IfOk result (λ p. p ≡ with_library self library.now) }
     {
-        let clauses = self.lacking(alloc, library)?;
         let mut program = self;
-        program.add_clauses(alloc, clauses)?;
+        program.add_library(alloc, library)?;
         Ok(program)
+    }
+
+    /// Adds those procedures of a library that the program neither defines nor declares. After an `Err` some of their clauses may be
+    /// there.
+    fn add_library(&mut self, alloc: Global, library: &Program) -> Result<(), AllocError>
+        ensures { OnOk result (self.new ≡ with_library self.old library.now) }
+    {
+        let clauses = self.lacking(alloc, library)?;
+        self.add_clauses(alloc, clauses)
     }
 }
