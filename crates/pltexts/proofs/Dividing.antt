@@ -1,9 +1,8 @@
 -- The parts of a text and the ways to divide it: one of the empty text, and several of any other.
-use Rattle.std.proofs.Common.{◌≡◌, ℕ, ℤ, Ok, List, [], ◌∷◌, ◌<◌, ◌≤◌, get_or, length, refl, sym, ap, ◌∙◌, arith}
+use Rattle.std.proofs.Common.{◌≡◌, ℕ, ℤ, Ok, List, [], ◌∷◌, length, refl, sym, ap, ◌∙◌, arith}
 use Rattle.std.specs.Str.{chars, encode_utf8_all, IsUtf8}
 use Rattle.std.proofs.lemmas.Str.{encodes-chars}
 use Rattle.plterm.specs.Tree.{Tree}
-use Rattle.plcells.specs.declared.cell.Cell.{Cell}
 use Rattle.plcells.specs.Store.{Store}
 use Rattle.plorder.specs.Shapes.{IsOfShape}
 use Rattle.plorder.specs.declared.shape.Shape.{Shape}
@@ -65,20 +64,3 @@ whole-term h v t s (Variable x) is other = ap (λ u. unifies u t s) is ∙ sym (
 whole-term h v t s (Integer i) is other = absurd (other i refl)
 whole-term h v t s (Atom a) is other = ap (λ u. unifies u t s) is.2 ∙ sym (ap (λ u. whole (Ok t) u s) is.2)
 whole-term h v t s (Compound b) is other = let e = is.2 ∙ is.1.is in ap (λ u. unifies u t s) e ∙ sym (ap (λ u. whole (Ok t) u s) e)
-
--- five arguments that were read
-pub list-five : (xs : List Cell) (a b c e f : Cell) → 5 ≤ length xs → length xs < 6 →
-    a ≡ get_or xs 0 a → b ≡ get_or xs 1 b → c ≡ get_or xs 2 c → e ≡ get_or xs 3 e → f ≡ get_or xs 4 f → xs ≡ a ∷ b ∷ c ∷ e ∷ f ∷ []
-list-five [] a b c e f ge lt p q r s t = absurd (omega (arith, ge))
-list-five (u ∷ []) a b c e f ge lt p q r s t = absurd (omega (arith, ge))
-list-five (u ∷ v ∷ []) a b c e f ge lt p q r s t = absurd (omega (arith, ge))
-list-five (u ∷ v ∷ w ∷ []) a b c e f ge lt p q r s t = absurd (omega (arith, ge))
-list-five (u ∷ v ∷ w ∷ x ∷ []) a b c e f ge lt p q r s t = absurd (omega (arith, ge))
-list-five (u ∷ v ∷ w ∷ x ∷ y ∷ []) a b c e f ge lt p q r s t =
-    let first : a ≡ u = p in
-    let second : b ≡ v = q in
-    let third : c ≡ w = r in
-    let fourth : e ≡ x = s in
-    let fifth : f ≡ y = t in
-    cc
-list-five (u ∷ v ∷ w ∷ x ∷ y ∷ z ∷ xs) a b c e f ge lt p q r s t = absurd (omega (arith, lt))

@@ -1,10 +1,12 @@
 -- The pieces of a format, and what they make of its arguments, taken from the left.
-use Rattle.std.proofs.Common.{◌≡◌, ℕ, List, [], ◌∷◌, ◌++◌, Ok, Err, refl, sym, ap, ◌∙◌}
-use Rattle.std.proofs.lemmas.List.{append_assoc, append-nil}
+use Rattle.std.proofs.Common.{◌≡◌, ℕ, List, [], ◌∷◌, ◌++◌, Ok, Err, map, refl, sym, ap, ◌∙◌}
+use Rattle.std.proofs.lemmas.List.{append_assoc, append-nil, map-append}
 use Rattle.plterm.specs.Tree.{Tree}
 use Rattle.plprogram.specs.declared.settings.Settings.{Settings}
 use Rattle.plbuiltin.specs.Format.{Directive, Piece, Byte, Takes, argument_text, formatted, joined}
 use Rattle.plbuiltin.specs.Texts.{Found}
+use Rattle.pltexts.specs.Format.{piece_as}
+use Rattle.pltexts.specs.declared.format.Piece.{Piece as Part}
 
 pub joined_none : (r : Found (List ℕ)) → r ≡ joined (Ok []) r
 joined_none (Ok text) = refl
@@ -30,3 +32,11 @@ module _ (s : Settings) (f a : Tree) (all : Found (List ℕ)) (text : List ℕ) 
 
 pub all_formatted : (all : Found (List ℕ)) (text : List ℕ) → all ≡ joined (Ok text) (Ok []) → all ≡ Ok text
 all_formatted all text so_far = so_far ∙ ap Ok (append-nil text)
+
+-- one more piece
+pub one_piece : (ps : List Part) (p : Part) (q : Piece) (new : List Part) (rest : List Piece) → piece_as p ≡ q → new ≡ ps ++ p ∷ [] → map piece_as ps ++ q ∷ rest ≡ map piece_as new ++ rest
+one_piece ps p q new rest is pushed =
+    ap (λ x. map piece_as ps ++ x ∷ rest) (sym is)
+    ∙ sym (append_assoc (map piece_as ps) (piece_as p ∷ []) rest)
+    ∙ ap (λ ys. ys ++ rest) (sym (map-append piece_as ps (p ∷ [])))
+    ∙ ap (λ (ys : List Part). map piece_as ys ++ rest) (sym pushed)

@@ -1,5 +1,5 @@
 -- Texts that are read as numbers.
-use Rattle.std.proofs.Common.{◌≡◌, ◌<◌, ℕ, List, [], ◌∷◌, Ok, refl, sym, ap, ◌∙◌}
+use Rattle.std.proofs.Common.{◌≡◌, ℕ, List, Ok, refl, sym, ap, ◌∙◌}
 use Rattle.plterm.specs.Tree.{Tree}
 use Rattle.plcells.specs.Store.{Store}
 use Rattle.plorder.specs.Shapes.{IsOfShape}

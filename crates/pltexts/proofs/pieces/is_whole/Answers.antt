@@ -1,8 +1,9 @@
-use Rattle.std.proofs.Common.{◌≡◌, Ok, ap, ◌∙◌, rules}
+use Rattle.std.proofs.Common.{◌≡◌, Ok, sym, ap, ap₂, ◌∙◌, rules}
+use Rattle.plterm.specs.Tree.{atom}
 use Rattle.plcells.specs.Store.{value}
 use Rattle.plbuiltin.specs.Pieces.{whole}
 use Rattle.plbuiltin.specs.Solution.{unifies}
-use Rattle.plbuiltin.specs.Texts.{atom_of}
+use Rattle.plbuiltin.specs.Texts.{atom_of, number_text}
 use Rattle.planswers.proofs.Forwarding.{forwarded}
 use Rattle.pltexts.proofs.Dividing.{whole-term}
 use Rattle.pltexts.proofs.pieces.is_whole.Goals as goal
@@ -21,3 +22,16 @@ returns-in_default-clause-there c = c.is_term.ensures.there c.args.heap.now c.re
 
 pub returns-in_ok-atom-in-Integer-clause-there : goal.returns-in_ok-atom-in-Integer-clause-there
 returns-in_ok-atom-in-Integer-clause-there c = c.are_terms.ensures.there c.args.heap.now
+
+pub returns-in-Err-clause-is : goal.returns-in-Err-clause-is
+returns-in-Err-clause-is c = λ s n. ap (λ r. whole r (value c.args.heap.now c.args.v) s) (sym c.in-Err.is ∙ c.in_ok-term.ensures)
+
+pub returns-in_ok-atom-in-Integer-clause-is : goal.returns-in_ok-atom-in-Integer-clause-is
+returns-in_ok-atom-in-Integer-clause-is c = λ s n.
+    let h = c.args.heap.now in
+    let t = c.in-Ok.term in
+    let found : Ok t ≡ atom_of c.args.text.now = sym c.in-Ok.is ∙ c.in_ok-term.ensures in
+    let left : c.in_ok-atom-in-Integer.field-0 ≡ atom (number_text c.in-Integer.i) = search rules in
+    c.are_terms.ensures.is h s n
+    ∙ ap (λ u. unifies u t s) left
+    ∙ ap₂ (λ r u. whole r u s) found (sym c.in-Integer.ensures)

@@ -4,7 +4,7 @@ use Rattle.plcells.specs.Store.{value}
 use Rattle.plprogram.specs.declared.settings.Settings.{Settings}
 use Rattle.plbuiltin.specs.Pieces.{sub_atom}
 use Rattle.planswers.specs.Answers.{meant}
-use Rattle.pltexts.proofs.Dividing.{list-five}
+use Rattle.pltexts.proofs.Arguments.{list-five}
 use Rattle.pltexts.proofs.pieces.sub_atom.Goals as goal
 
 pub returns-clause-is : goal.returns-clause-is
