@@ -1,0 +1,9 @@
+use Rattle.std.proofs.Common.{ap, ◌∙◌}
+use Rattle.plwrite.specs.Writing.{written}
+use Rattle.plbuiltin.specs.Solution.{writes}
+use Rattle.pltexts.proofs.output.write.Goals as goal
+
+pub returns-clause-is : goal.returns-clause-is
+returns-clause-is c = λ n.
+    let s = c.args.settings.now in
+    ap (λ t. writes t s) (c.in_ok-text.ensures ∙ ap (written s.operators c.args.style) c.in_ok-term.ensures)
