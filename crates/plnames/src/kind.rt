@@ -1,7 +1,7 @@
 //! Control constructs, built-in predicates and directives.
 
 /// Where a clause is added to its procedure (ISO/IEC 13211-1 8.9.1, 8.9.2).
-#[derive(Clone, Copy, Debug, PartialEq, Eq)]
+#[derive(Clone, Copy, PartialEq, Eq)]
 pub enum Side {
     /// Before all others.
     Front,
@@ -11,7 +11,7 @@ pub enum Side {
 
 /// A control construct (ISO/IEC 13211-1 7.8), or a predicate that asks something of the run as a control construct does:
 /// those on clauses (8.8, 8.9), and halt/0, halt/1.
-#[derive(Clone, Copy, Debug, PartialEq, Eq)]
+#[derive(Clone, Copy, PartialEq, Eq)]
 pub enum Control {
     /// true/0.
     True,
@@ -56,7 +56,7 @@ pub enum Control {
 }
 
 /// A built-in predicate on terms (8.2).
-#[derive(Clone, Copy, Debug, PartialEq, Eq)]
+#[derive(Clone, Copy, PartialEq, Eq)]
 pub enum Terms {
     /// =/2, and unify_with_occurs_check/2, since each unification makes the occurs check.
     Unify,
@@ -65,7 +65,7 @@ pub enum Terms {
 }
 
 /// A built-in predicate that asks what a term is (8.3).
-#[derive(Clone, Copy, Debug, PartialEq, Eq)]
+#[derive(Clone, Copy, PartialEq, Eq)]
 pub enum Tests {
     /// var/1.
     Variable,
@@ -86,7 +86,7 @@ pub enum Tests {
 }
 
 /// A built-in predicate on the parts of a term (8.5).
-#[derive(Clone, Copy, Debug, PartialEq, Eq)]
+#[derive(Clone, Copy, PartialEq, Eq)]
 pub enum Parts {
     /// arg/3.
     Argument,
@@ -101,7 +101,7 @@ pub enum Parts {
 }
 
 /// How two integers compare (8.7).
-#[derive(Clone, Copy, Debug, PartialEq, Eq)]
+#[derive(Clone, Copy, PartialEq, Eq)]
 pub enum Comparison {
     /// `=:=`/2.
     Equal,
@@ -118,7 +118,7 @@ pub enum Comparison {
 }
 
 /// A built-in predicate that evaluates expressions (8.6, 8.7).
-#[derive(Clone, Copy, Debug, PartialEq, Eq)]
+#[derive(Clone, Copy, PartialEq, Eq)]
 pub enum Arithmetic {
     /// is/2.
     Is,
@@ -127,7 +127,7 @@ pub enum Arithmetic {
 }
 
 /// What the order of two terms has to be (8.4.1).
-#[derive(Clone, Copy, Debug, PartialEq, Eq)]
+#[derive(Clone, Copy, PartialEq, Eq)]
 pub enum Relation {
     /// `==`/2.
     Same,
@@ -144,7 +144,7 @@ pub enum Relation {
 }
 
 /// A built-in predicate that looks at terms as they are (8.3.10, 8.4).
-#[derive(Clone, Copy, Debug, PartialEq, Eq)]
+#[derive(Clone, Copy, PartialEq, Eq)]
 pub enum Order {
     /// The order of two terms is one of some.
     Holds(Relation),
@@ -155,7 +155,7 @@ pub enum Order {
 }
 
 /// A built-in predicate that puts the elements of a list in order (Cor.2 8.4.3, 8.4.4).
-#[derive(Clone, Copy, Debug, PartialEq, Eq)]
+#[derive(Clone, Copy, PartialEq, Eq)]
 pub enum Sorting {
     /// sort/2: of equal elements one is left.
     Once,
@@ -166,7 +166,7 @@ pub enum Sorting {
 }
 
 /// How a text is spelled as a list (6.3.7).
-#[derive(Clone, Copy, Debug, PartialEq, Eq)]
+#[derive(Clone, Copy, PartialEq, Eq)]
 pub enum Spelling {
     /// By one-character atoms.
     Characters,
@@ -175,7 +175,7 @@ pub enum Spelling {
 }
 
 /// A built-in predicate on atoms (8.16).
-#[derive(Clone, Copy, Debug, PartialEq, Eq)]
+#[derive(Clone, Copy, PartialEq, Eq)]
 pub enum Atoms {
     /// atom_length/2.
     Length,
@@ -194,7 +194,7 @@ pub enum Atoms {
 }
 
 /// A built-in predicate that writes (8.14).
-#[derive(Clone, Copy, Debug, PartialEq, Eq)]
+#[derive(Clone, Copy, PartialEq, Eq)]
 pub enum Output {
     /// write/1.
     Write,
@@ -217,7 +217,7 @@ pub enum Output {
 }
 
 /// A built-in predicate on the operators and the flags (8.14.3, 8.14.4, 8.17).
-#[derive(Clone, Copy, Debug, PartialEq, Eq)]
+#[derive(Clone, Copy, PartialEq, Eq)]
 pub enum Flags {
     /// op/3.
     Operator,
@@ -230,7 +230,7 @@ pub enum Flags {
 }
 
 /// A built-in predicate, by its topic.
-#[derive(Clone, Copy, Debug, PartialEq, Eq)]
+#[derive(Clone, Copy, PartialEq, Eq)]
 pub enum BuiltIn {
     Terms(Terms),
     Tests(Tests),
@@ -244,14 +244,14 @@ pub enum BuiltIn {
 }
 
 /// What a name with an arity is, if it is fixed.
-#[derive(Clone, Copy, Debug, PartialEq, Eq)]
+#[derive(Clone, Copy, PartialEq, Eq)]
 pub enum Kind {
     Control(Control),
     BuiltIn(BuiltIn),
 }
 
 /// A directive (7.4.2).
-#[derive(Clone, Copy, Debug, PartialEq, Eq)]
+#[derive(Clone, Copy, PartialEq, Eq)]
 pub enum Directive {
     /// initialization/1: a goal of main.
     Run,

@@ -26,8 +26,8 @@ returns-clause-ok c P b =
     ))
     (subst (λ l. OnOk c.publish_swept.result ((head : Cell) (w : Sweep) → s.mode ≡ modes.Find (finds.Sweep head w) → Moved P s c.publish_swept.new.self (publish w.updates.items (goals_of s.stack l) s.stack.env.count (local_of s)))) c.visited-rest.ensures.is (c.publish_swept.ensures.ok P))
 
-made : (c : goal.After-publish_swept) (P : Program) → OnOk c.publish_swept.result (Moved P c.args.self.now.machine c.publish_swept.new.self (publish c.requires.sweeps.1.0.updates.items (goals_of c.args.self.now.machine.stack c.visited-rest.result) c.args.self.now.machine.stack.env.count (local_of c.args.self.now.machine)))
-made c P = on_ok_map c.publish_swept.result (λ moved. moved c.requires.sweeps.0 c.requires.sweeps.1.0 c.requires.sweeps.1.1) (c.publish_swept.ensures.ok P)
+made : (c : goal.After-publish_swept) (P : Program) → OnOk c.publish_swept.result (Moved P c.args.self.now.machine c.publish_swept.new.self (publish c.requires.sweeps.1.updates.items (goals_of c.args.self.now.machine.stack c.visited-rest.result) c.args.self.now.machine.stack.env.count (local_of c.args.self.now.machine)))
+made c P = on_ok_map c.publish_swept.result (λ moved. moved c.requires.sweeps.0 c.requires.sweeps.1 c.requires.sweeps.2) (c.publish_swept.ensures.ok P)
 
 pub returns-clause-of : goal.returns-clause-of
 returns-clause-of c P b =
