@@ -3,9 +3,8 @@ ghost use Rattle.std.specs.Prelude.{◌≡◌, [], IfOk};
 ghost use Rattle.plcells.specs.Store.{AreValues};
 ghost use Rattle.planswers.specs.Answers.{IsThere};
 
-use crate::made::{arguments, empty, put};
-use crate::rows::{ATOMS, FLAGS, NUMBERS, ORDERS, OUTPUT, PARTS, TERMS};
-use crate::told::told;
+use crate::made::{arguments, put};
+use crate::told::tell;
 use planswers::answer::Answer;
 use plcells::cell::Cell;
 use plcells::heap::Heap;
@@ -21,6 +20,7 @@ use pltexts::atoms::atoms_answer;
 use pltexts::flags::flags_answer;
 use pltexts::output::output_answer;
 use std::alloc::{AllocError, Global};
+use std::mem::forget;
 use std::string::String;
 use std::test::Fail;
 
@@ -59,12 +59,29 @@ fn by_topic(
 
 /// Which function is called.
 #[derive(Clone, Copy)]
-enum By {
+pub(crate) enum By {
     Topic,
     All,
 }
 
-/// What a call comes to, under the settings at the start.
+/// What a call comes to by one of the two functions.
+fn answered_under(
+    alloc: Global,
+    heap: &Heap,
+    settings: &Settings,
+    goal: (By, BuiltIn),
+    args: &[Cell],
+) -> Result<Answer, AllocError>
+    requires { AreValues heap.now args.now }
+    ensures { IfOk result (IsThere heap.now) }
+{
+    match goal.0 {
+        By::Topic => by_topic(alloc, heap, settings, goal.1, args),
+        By::All => answers(alloc, heap, settings, goal.1, args),
+    }
+}
+
+/// What a call comes to, under the settings at the start. These are not given back: a test's process ends soon.
 fn answered(
     alloc: Global,
     heap: &Heap,
@@ -76,73 +93,40 @@ fn answered(
     ensures { IfOk result (IsThere heap.now) }
 {
     let settings = Settings::iso(alloc)?;
-    match by {
-        By::Topic => by_topic(alloc, heap, &settings, b, args),
-        By::All => answers(alloc, heap, &settings, b, args),
-    }
+    let answer = answered_under(alloc, heap, &settings, (by, b), args);
+    forget(settings);
+    answer
 }
 
-/// What a goal comes to that is put on a heap with nothing on it.
-fn called_on(heap: &mut Heap, alloc: Global, by: By, term: &Term) -> Result<String, Fail>
+/// Adds what a goal comes to that is put on a heap with nothing on it.
+fn tell_term(
+    heap: &mut Heap,
+    alloc: Global,
+    by: By,
+    term: &Term,
+    told: &mut String,
+) -> Result<(), Fail>
     requires { heap.old.cells ≡ [] }
 {
     let b = built_in_of(alloc, term)?;
     let goal = put(heap, alloc, term)?;
     let args = arguments(alloc, heap, goal.value)?;
     let answer = answered(alloc, heap, by, b, &args)?;
-    told(heap, alloc, &goal, &answer)
+    tell(heap, alloc, &goal, &answer, told)
 }
 
-/// What a goal comes to.
-fn called(alloc: Global, by: By, term: &Term) -> Result<String, Fail> {
-    let mut heap = empty(alloc);
-    called_on(&mut heap, alloc, by, term)
-}
-
-/// What the goal of a text comes to, by the function of its topic and by that of all: both, where they differ.
-fn both(alloc: Global, text: &str) -> Result<String, Fail> {
+/// Adds what the goal of a text comes to that is put on a heap with nothing on it.
+pub(crate) fn tell_called(
+    heap: &mut Heap,
+    alloc: Global,
+    by: By,
+    text: &str,
+    told: &mut String,
+) -> Result<(), Fail>
+    requires { heap.old.cells ≡ [] }
+{
     let term = goal_of(alloc, text)?;
-    let one = called(alloc, By::All, &term)?;
-    let other = called(alloc, By::Topic, &term)?;
-    if one.as_str() == other.as_str() {
-        return Ok(one);
-    }
-    Ok(format!(in alloc; "{one} / {other}")?)
-}
-
-/// The first goal of some rows that comes to anything else than its row says, with what it comes to.
-fn first_wrong(alloc: Global, rows: &[(&str, &str)]) -> Result<Option<String>, Fail> {
-    for (goal, wanted) in rows {
-        let found = both(alloc, goal)?;
-        if found.as_str() != *wanted {
-            return Ok(Some(format!(in alloc; "{goal}: {found}")?));
-        }
-    }
-    Ok(None)
-}
-
-/// The same of some groups of rows.
-fn first_wrong_of(alloc: Global, groups: &[&[(&str, &str)]]) -> Result<Option<String>, Fail> {
-    for rows in groups {
-        if let Some(row) = first_wrong(alloc, rows)? {
-            return Ok(Some(row));
-        }
-    }
-    Ok(None)
-}
-
-/// The rows, one topic after the other.
-const TOPICS: [&[&[(&str, &str)]]; 7] = [
-    &TERMS, &PARTS, &NUMBERS, &ORDERS, &ATOMS, &OUTPUT, &FLAGS,
-];
-
-#[test]
-fn rows_of_goals(rt: HostRuntime) -> Result<(), Fail> {
-    let alloc = rt.alloc();
-    for groups in TOPICS {
-        assert_eq!(rt; first_wrong_of(alloc, groups)?, None);
-    }
-    Ok(())
+    tell_term(heap, alloc, by, &term, told)
 }
 
 /// Comparisons, and whether they hold of -2 and 1, of 1 and 1, and of 1 and -2 (8.7).

@@ -3,8 +3,8 @@ ghost use Rattle.std.specs.Prelude.{◌≡◌, [], IfOk};
 ghost use Rattle.plcells.specs.Store.{AreValues, IsValue};
 ghost use Rattle.planswers.specs.Answers.{IsThere};
 
-use crate::made::{arguments, empty, put};
-use crate::told::{group_answer, told};
+use crate::made::{arguments, put};
+use crate::told::{group_answer, tell};
 use planswers::answer::Answer;
 use planswers::build::{compound_of_variables, list_of_variables};
 use planswers::equation::{are_terms, are_values, is_list_of, is_term, list_equation, solves};
@@ -14,12 +14,13 @@ use plmade::made::{goal_of, text_of};
 use plterm::name::Name;
 use plterm::term::Term;
 use std::alloc::{AllocError, Global};
+use std::fmt::Write;
 use std::string::String;
 use std::test::Fail;
 
 /// How the arguments of a goal are made one.
 #[derive(Clone, Copy)]
-enum How {
+pub(crate) enum How {
     /// The first is the third.
     Other,
     /// The first is a new variable.
@@ -131,49 +132,34 @@ fn answer_of(alloc: Global, heap: &Heap, how: How, args: &[Cell]) -> Result<Answ
     }
 }
 
-/// How the arguments of a goal are made one, and the goal then.
-const SOLVED: [(How, &str, &str); 14] = [
-    (How::Other, "g(X, Y, f(Z), Z)", "g(f(_1),_2,f(_1),_1)"),
-    (How::Other, "g(a, Y, b, Z)", "no"),
-    (How::New, "g(f(X), Y, a, X)", "g(f(_1),_2,a,_1)"),
-    (How::Integer, "g(X, X, a, b)", "g(7,7,a,b)"),
-    (How::Integer, "g(8, X, a, b)", "no"),
-    (How::List, "g(X, a, Y, Z)", "g([a,_1],a,_1,_2)"),
-    (How::List, "g([X, b], a, Y, Z)", "g([a,b],a,b,_1)"),
-    (How::List, "g([X], a, Y, Z)", "no"),
-    (How::ListEquation, "g(X, a, Y, Z)", "g([a,_1],a,_1,_2)"),
-    (How::Pairs, "g(X, f(a), b, f(Y))", "g(b,f(a),b,f(a))"),
-    (How::Pairs, "g(X, X, a, b)", "no"),
-    (How::Terms, "g(X, Y, X, Y)", "no"),
-    (How::Together, "g(X, b, Y, d)", "g(a,b,c,d)"),
-    (How::Together, "g(X, X, Y, Z)", "no"),
-];
-
-/// What comes of the arguments of a goal that is put on a heap with nothing on it and that are made one.
-fn solved_on(heap: &mut Heap, alloc: Global, how: How, term: &Term) -> Result<String, Fail>
+/// Adds what comes of a goal whose arguments are made one and that is put on a heap with nothing on it.
+fn tell_term(
+    heap: &mut Heap,
+    alloc: Global,
+    how: How,
+    term: &Term,
+    told: &mut String,
+) -> Result<(), Fail>
     requires { heap.old.cells ≡ [] }
 {
     let goal = put(heap, alloc, term)?;
     let args = arguments(alloc, heap, goal.value)?;
     let answer = answer_of(alloc, heap, how, &args)?;
-    told(heap, alloc, &goal, &answer)
+    tell(heap, alloc, &goal, &answer, told)
 }
 
-/// What comes of the arguments of a goal that are made one.
-fn solved(alloc: Global, how: How, text: &str) -> Result<String, Fail> {
+/// The same of the goal of a text.
+pub(crate) fn tell_equation(
+    heap: &mut Heap,
+    alloc: Global,
+    how: How,
+    text: &str,
+    told: &mut String,
+) -> Result<(), Fail>
+    requires { heap.old.cells ≡ [] }
+{
     let term = goal_of(alloc, text)?;
-    let mut heap = empty(alloc);
-    solved_on(&mut heap, alloc, how, &term)
-}
-
-#[test]
-fn rows_of_equations(rt: HostRuntime) -> Result<(), Fail> {
-    let alloc = rt.alloc();
-    for (how, goal, wanted) in SOLVED {
-        let found = solved(alloc, how, goal)?;
-        assert_eq!(rt; found.as_str(), wanted);
-    }
-    Ok(())
+    tell_term(heap, alloc, how, &term, told)
 }
 
 /// The compound of f and so many variables, with the numbers from one on.
@@ -185,31 +171,53 @@ fn compound(alloc: Global, from: u32, count: u16) -> Result<Term, AllocError> {
     compound_of_variables(alloc, name, u64::from(from), count)
 }
 
-/// The list of so many variables, with the numbers from one on, or their compound, as text; and the numbers.
-fn made(alloc: Global, is_list: bool, from: u32, count: u16) -> Result<(String, Vec<u64>), Fail> {
-    let term = if is_list {
-        list_of_variables(alloc, u64::from(from), u64::from(count))?
-    } else {
-        compound(alloc, from, count)?
-    };
-    Ok((text_of(alloc, &term)?, term.variables(alloc)?))
+/// What is made of variables whose numbers are some from one on.
+#[derive(Clone, Copy)]
+enum Shape {
+    List,
+    Compound,
 }
 
-/// Whether a list is made, and of which variables, and its text.
-const VARIABLES: [(bool, &[u64], &str); 4] = [
-    (true, &[5, 6, 7], "[_1,_2,_3]"),
-    (true, &[0], "[_1]"),
-    (false, &[7, 8], "f(_1,_2)"),
-    (false, &[0], "f(_1)"),
+/// A list or a compound of so many variables, with the numbers from one on.
+fn shaped(alloc: Global, shape: Shape, from: u32, count: u16) -> Result<Term, AllocError> {
+    match shape {
+        Shape::List => list_of_variables(alloc, u64::from(from), u64::from(count)),
+        Shape::Compound => compound(alloc, from, count),
+    }
+}
+
+/// Adds what is made of variables, as text, and their numbers.
+fn tell_shape(alloc: Global, row: &(Shape, u32, u16), told: &mut String) -> Result<(), Fail> {
+    let term = shaped(alloc, row.0, row.1, row.2)?;
+    let text = text_of(alloc, &term)?;
+    let numbers = term.variables(alloc)?;
+    write!(told, "{text} {numbers:?}; ")?;
+    Ok(())
+}
+
+/// What is made, from which number on, and of how many variables.
+const SHAPES: [(Shape, u32, u16); 4] = [
+    (Shape::List, 5, 3),
+    (Shape::List, 0, 1),
+    (Shape::Compound, 7, 2),
+    (Shape::Compound, 0, 1),
 ];
+
+/// Adds what is made of variables in each row.
+fn tell_shapes(alloc: Global, told: &mut String) -> Result<(), Fail> {
+    for row in SHAPES.iter() {
+        tell_shape(alloc, row, told)?;
+    }
+    Ok(())
+}
 
 #[test]
 fn rows_of_variables(rt: HostRuntime) -> Result<(), Fail> {
-    let alloc = rt.alloc();
-    for (is_list, numbers, wanted) in VARIABLES {
-        let (text, found) = made(alloc, is_list, numbers[0] as u32, numbers.len() as u16)?;
-        assert_eq!(rt; text.as_str(), wanted);
-        assert_eq!(rt; found.as_slice(), numbers);
-    }
+    let mut told = String::new(rt.alloc());
+    tell_shapes(rt.alloc(), &mut told)?;
+    assert_eq!(rt;
+        told.as_str(),
+        "[_1,_2,_3] [5, 6, 7]; [_1] [0]; f(_1,_2) [7, 8]; f(_1) [0]; "
+    );
     Ok(())
 }

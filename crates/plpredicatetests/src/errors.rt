@@ -2,7 +2,8 @@
 ghost use Rattle.std.specs.Prelude.{◌≡◌, []};
 ghost use Rattle.plcells.specs.Store.{AreValues, IsValue};
 
-use crate::made::{empty, put_arguments, word};
+use crate::made::{put_arguments, put_word};
+use crate::told::put_term;
 use planswers::answer::Answer;
 use planswers::error;
 use plcells::cell::Cell;
@@ -10,7 +11,6 @@ use plcells::heap::Heap;
 use plerror::error::{
     domain_error, instantiation_error, permission_error, representation_error, syntax_error,
 };
-use plmade::made::text_of;
 use plterm::term::Term;
 use std::alloc::{AllocError, Global};
 use std::string::String;
@@ -18,7 +18,7 @@ use std::test::Fail;
 
 /// What is amiss.
 #[derive(Clone, Copy)]
-enum Amiss {
+pub(crate) enum Amiss {
     Unbound,
     Type,
     Domain,
@@ -95,76 +95,41 @@ fn error_of(
     }
 }
 
-/// What is amiss with the arguments of a goal, and their error.
-const ERRORS: [(Amiss, &str, &str); 15] = [
-    (Amiss::Unbound, "g(X, Y)", "instantiation_error"),
-    (Amiss::Type, "g(f(X, a), Y)", "type_error(list,f(_1,a))"),
-    (Amiss::Domain, "g(a, Y)", "domain_error(order,a)"),
-    (
-        Amiss::Permission,
-        "g(bounded, Y)",
-        "permission_error(modify,flag,bounded)",
-    ),
-    (
-        Amiss::Representation,
-        "g(X, Y)",
-        "representation_error(max_arity)",
-    ),
-    (Amiss::Syntax, "g(X, Y)", "syntax_error(illegal_number)"),
-    (Amiss::NoAtom, "g(1, Y)", "type_error(atom,1)"),
-    (Amiss::NoAtom, "g(f(a), Y)", "type_error(atom,f(a))"),
-    (Amiss::NoAtom, "g(a, Y)", "none"),
-    (Amiss::NoAtom, "g(X, Y)", "none"),
-    (Amiss::Outside, "g(12, Y)", "domain_error(order,12)"),
-    (
-        Amiss::Value,
-        "g(unknown, f(X))",
-        "domain_error(flag_value,unknown+f(_1))",
-    ),
-    (Amiss::RaisesUnbound, "g(a, Y)", "instantiation_error"),
-    (Amiss::RaisesType, "g([a|b], Y)", "type_error(list,[a|b])"),
-    (Amiss::RaisesOutside, "g(a, Y)", "domain_error(order,a)"),
-];
-
-/// The text of an error, if there is one.
-fn told(alloc: Global, error: &Option<Term>) -> Result<String, Fail> {
+/// Adds the text of an error, if there is one, and else `none`.
+fn tell_error(alloc: Global, error: &Option<Term>, told: &mut String) -> Result<(), Fail> {
     match error {
-        Some(error) => Ok(text_of(alloc, error)?),
-        None => word(alloc, "none"),
+        Some(error) => put_term(alloc, error, told),
+        None => put_word(told, "none"),
     }
 }
 
-/// The error of some values.
-fn of_values(alloc: Global, heap: &Heap, amiss: Amiss, args: &[Cell]) -> Result<String, Fail>
+/// Adds the error of some values.
+fn tell_values(
+    alloc: Global,
+    heap: &Heap,
+    amiss: Amiss,
+    args: &[Cell],
+    told: &mut String,
+) -> Result<(), Fail>
     requires { AreValues heap.now args.now }
 {
     let [v, w] = args else {
         return Err("no two arguments".into());
     };
     let error = error_of(alloc, heap, amiss, *v, *w)?;
-    told(alloc, &error)
+    tell_error(alloc, &error, told)
 }
 
-/// The error of the arguments of a goal that is put on a heap with nothing on it.
-fn made_on(heap: &mut Heap, alloc: Global, amiss: Amiss, goal: &str) -> Result<String, Fail>
+/// Adds the error of the arguments of a goal that is put on a heap with nothing on it.
+pub(crate) fn tell_amiss(
+    heap: &mut Heap,
+    alloc: Global,
+    amiss: Amiss,
+    goal: &str,
+    told: &mut String,
+) -> Result<(), Fail>
     requires { heap.old.cells ≡ [] }
 {
     let args = put_arguments(heap, alloc, goal)?;
-    of_values(alloc, heap, amiss, &args)
-}
-
-/// The error of the arguments of a goal.
-fn made(alloc: Global, amiss: Amiss, goal: &str) -> Result<String, Fail> {
-    let mut heap = empty(alloc);
-    made_on(&mut heap, alloc, amiss, goal)
-}
-
-#[test]
-fn rows_of_errors(rt: HostRuntime) -> Result<(), Fail> {
-    let alloc = rt.alloc();
-    for (amiss, goal, wanted) in ERRORS {
-        let found = made(alloc, amiss, goal)?;
-        assert_eq!(rt; found.as_str(), wanted);
-    }
-    Ok(())
+    tell_values(alloc, heap, amiss, &args, told)
 }

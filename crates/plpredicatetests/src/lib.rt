@@ -16,4 +16,6 @@ mod parts;
 #[cfg(test)]
 mod rows;
 #[cfg(test)]
+mod tables;
+#[cfg(test)]
 mod told;

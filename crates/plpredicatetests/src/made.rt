@@ -6,7 +6,7 @@ ghost use Rattle.plcells.specs.Store.{AreValues, IsValue};
 use platoms::names::Names;
 use plcells::cell::Cell;
 use plcells::heap::Heap;
-use plmade::made::goal_of;
+use plmade::made::{goal_of, shown};
 use plterm::term::Term;
 use std::alloc::{AllocError, Global};
 use std::string::String;
@@ -97,4 +97,18 @@ pub(crate) fn put_arguments(heap: &mut Heap, alloc: Global, text: &str) -> Resul
 /// A text as its own.
 pub(crate) fn word(alloc: Global, text: &str) -> Result<String, Fail> {
     Ok(text.to_string(alloc)?)
+}
+
+/// Adds a text.
+pub(crate) fn put_word(told: &mut String, text: &str) -> Result<(), Fail> {
+    told.push_str(text)?;
+    Ok(())
+}
+
+/// Adds the text of a value's term.
+pub(crate) fn show(alloc: Global, heap: &Heap, v: Cell, told: &mut String) -> Result<(), Fail>
+    requires { IsValue heap.now v }
+{
+    let text = shown(alloc, heap, v)?;
+    put_word(told, text.as_str())
 }

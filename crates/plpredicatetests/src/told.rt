@@ -7,14 +7,13 @@ ghost use Rattle.plcells.specs.Store.{AreValues, IsValue};
 ghost use Rattle.plgenerator.specs.Answers.{IsRemaining};
 ghost use Rattle.planswers.specs.Answers.{IsThere};
 
-use crate::made::{Goal, word};
+use crate::made::{Goal, put_word, show, word};
 use planswers::answer::Answer;
 use planswers::equation::are_together;
 use plbind::unify::{Scratch, unify};
 use plcells::cell::Cell;
 use plcells::equation::Equation;
 use plcells::heap::Heap;
-use plgenerator::equation::together;
 use plgenerator::generator::{Piece, Sides, next};
 use plgenerator::turn::Remaining;
 use plmade::made::{shown, text_of};
@@ -23,48 +22,27 @@ use plprogram::settings::Settings;
 use plterm::term::Term;
 use std::alloc::{AllocError, Global};
 use std::fmt::Write;
+use std::mem::forget;
 use std::string::String;
 use std::test::Fail;
 
-/// A goal's text once two values are unified; `no`, where they have no unifier. Values stay values.
-fn unified(
-    heap: &mut Heap,
-    alloc: Global,
-    goal: Cell,
-    left: Cell,
-    right: Cell,
-) -> Result<String, Fail>
-    requires goal { IsValue heap.old goal }
+/// Whether two values have a unifier, by which they are then one. Values stay values.
+fn unified(heap: &mut Heap, alloc: Global, left: Cell, right: Cell) -> Result<bool, Fail>
     requires left { IsValue heap.old left }
     requires right { IsValue heap.old right }
     ensures { OnOk result ((v : OfCell) → IsValue heap.old v → IsValue heap.new v) }
 {
     let mut scratch = Scratch::new(alloc);
-    if !unify(heap, &mut scratch, left, right)? {
-        return word(alloc, "no");
-    }
-    Ok(shown(alloc, heap, goal)?)
+    Ok(unify(heap, &mut scratch, left, right)?)
 }
 
-/// `yes`, where two values have no unifier, and else `no`.
-fn different(heap: &mut Heap, alloc: Global, left: Cell, right: Cell) -> Result<String, Fail>
-    requires left { IsValue heap.old left }
-    requires right { IsValue heap.old right }
-{
-    let mut scratch = Scratch::new(alloc);
-    if unify(heap, &mut scratch, left, right)? {
-        return word(alloc, "no");
-    }
-    word(alloc, "yes")
-}
-
-/// A goal's text once a value is an integer; `no`, where it can't be.
-fn equal(heap: &mut Heap, alloc: Global, goal: Cell, v: Cell, number: i64) -> Result<String, Fail>
-    requires goal { IsValue heap.old goal }
-    requires value { IsValue heap.old v }
+/// Whether a value can be an integer, which it is then. Values stay values.
+fn equal(heap: &mut Heap, alloc: Global, v: Cell, number: i64) -> Result<bool, Fail>
+    requires { IsValue heap.old v }
+    ensures { OnOk result ((v : OfCell) → IsValue heap.old v → IsValue heap.new v) }
 {
     let number = heap.integer(number)?;
-    unified(heap, alloc, goal, v, number)
+    unified(heap, alloc, v, number)
 }
 
 /// What the variables of an equation stand for: its values, and variables for those that are new.
@@ -83,13 +61,8 @@ fn filled(alloc: Global, heap: &Heap, goal: &Goal, equation: &Equation) -> Resul
     Ok(values)
 }
 
-/// A goal's text once an equation is solved; `no`, where it has no solution. Values stay values.
-pub(crate) fn solved(
-    heap: &mut Heap,
-    alloc: Global,
-    goal: &Goal,
-    equation: &Equation,
-) -> Result<String, Fail>
+/// Whether an equation has a solution, which its values are then. Values stay values.
+fn solved(heap: &mut Heap, alloc: Global, goal: &Goal, equation: &Equation) -> Result<bool, Fail>
     requires goal { IsValue heap.old goal.now.value }
     requires spare { AreValues heap.old goal.now.spare.items }
     requires equation { IsEquation heap.old equation.now }
@@ -98,7 +71,40 @@ pub(crate) fn solved(
     let values = filled(alloc, heap, goal, equation)?;
     let left = heap.put(alloc, &equation.left, &values)?;
     let right = heap.put(alloc, &equation.right, &values)?;
-    unified(heap, alloc, goal.value, left, right)
+    unified(heap, alloc, left, right)
+}
+
+/// Adds a goal's text where it is true, and else `no`.
+fn tell_goal(
+    alloc: Global,
+    heap: &Heap,
+    goal: &Goal,
+    holds: bool,
+    told: &mut String,
+) -> Result<(), Fail>
+    requires { IsValue heap.now goal.now.value }
+{
+    if holds {
+        show(alloc, heap, goal.value, told)
+    } else {
+        put_word(told, "no")
+    }
+}
+
+/// Adds a goal's text once an equation is solved; `no`, where it has no solution.
+pub(crate) fn tell_solved(
+    heap: &mut Heap,
+    alloc: Global,
+    goal: &Goal,
+    equation: &Equation,
+    told: &mut String,
+) -> Result<(), Fail>
+    requires goal { IsValue heap.old goal.now.value }
+    requires spare { AreValues heap.old goal.now.spare.items }
+    requires equation { IsEquation heap.old equation.now }
+{
+    let holds = solved(heap, alloc, goal, equation)?;
+    tell_goal(alloc, heap, goal, holds, told)
 }
 
 /// A term without variables again.
@@ -130,14 +136,14 @@ pub(crate) fn group_answer(
     Ok(are_together(alloc, values, right)?)
 }
 
-/// A goal's text once some values, together, are the term of a group; `no`, where they can't be. Values stay values.
+/// Whether some values can be, together, the term of a group, which they are then. Values stay values.
 fn of_group(
     heap: &mut Heap,
     alloc: Global,
     goal: &Goal,
     values: &[Cell],
     group: &Term,
-) -> Result<String, Fail>
+) -> Result<bool, Fail>
     requires goal { IsValue heap.old goal.now.value }
     requires spare { AreValues heap.old goal.now.spare.items }
     requires values { AreValues heap.old values.now }
@@ -167,31 +173,36 @@ fn of_groups(
     requires few { length values.now ≤ 1023 }
 {
     for group in groups {
-        let text = of_group(heap, alloc, goal, values, group)?;
-        if text.as_str() != "no" {
-            return Ok(text);
+        let is_one = of_group(heap, alloc, goal, values, group)?;
+        if is_one {
+            return Ok(shown(alloc, heap, goal.value)?);
         }
     }
     word(alloc, "no")
 }
 
-/// What is told of a part: the numbers of characters before it, in it and behind it, and its text.
-fn piece_term(alloc: Global, piece: &Piece) -> Result<Term, Fail> {
-    let part = piece.part;
-    let terms = vec![in alloc;
-        Term::int(alloc, part.offset.characters.into())?,
-        Term::int(alloc, part.length.into())?,
-        Term::int(alloc, part.after.into())?,
-        Term::atom(alloc, piece.text.copied()?)?,
-    ]?;
-    Ok(together(alloc, terms)?)
+/// Adds the text of a term.
+pub(crate) fn put_term(alloc: Global, term: &Term, told: &mut String) -> Result<(), Fail> {
+    let text = text_of(alloc, term)?;
+    put_word(told, text.as_str())
 }
 
-/// The text of the right side of an answer.
-fn right_text(alloc: Global, sides: &Sides) -> Result<String, Fail> {
+/// Adds what is told of a part: the numbers of characters before it, in it and behind it, and its text, as one term.
+fn put_piece(alloc: Global, piece: &Piece, told: &mut String) -> Result<(), Fail> {
+    let before = piece.part.offset.characters;
+    let length = piece.part.length;
+    let after = piece.part.after;
+    write!(told, "-({before},{length},{after},")?;
+    let name = Term::atom(alloc, piece.text.copied()?)?;
+    put_term(alloc, &name, told)?;
+    put_word(told, ")")
+}
+
+/// Adds the text of the right side of an answer.
+fn put_right(alloc: Global, sides: &Sides, told: &mut String) -> Result<(), Fail> {
     match sides {
-        Sides::Terms(equation) => Ok(text_of(alloc, &equation.right)?),
-        Sides::Part(_, piece) => Ok(text_of(alloc, &piece_term(alloc, piece)?)?),
+        Sides::Terms(equation) => put_term(alloc, &equation.right, told),
+        Sides::Part(_, piece) => put_piece(alloc, piece, told),
     }
 }
 
@@ -213,22 +224,27 @@ fn tell_next(
     let Some(found) = next(alloc, heap, values, turn)? else {
         return Ok(None);
     };
-    let text = right_text(alloc, &found.sides)?;
-    write!(told, "{text} ")?;
+    put_right(alloc, &found.sides, told)?;
+    told.push(' ')?;
     Ok(found.rest)
 }
 
-/// The right sides of the answers of a turn, at most a hundred.
-fn answers_of(alloc: Global, heap: &Heap, values: &[Cell], turn: Remaining) -> Result<String, Fail>
+/// Adds the right sides of the answers of a turn, at most a hundred.
+fn tell_answers(
+    alloc: Global,
+    heap: &Heap,
+    values: &[Cell],
+    turn: Remaining,
+    told: &mut String,
+) -> Result<(), Fail>
     requires values { AreValues heap.now values.now }
     requires turn { IsRemaining heap.now values.now turn }
 {
-    let mut told = String::new(alloc);
     let mut rest = Some(turn);
     'answers: for _ in 0..100 {
-        rest = tell_next(alloc, heap, values, rest, &mut told)?;
+        rest = tell_next(alloc, heap, values, rest, told)?;
     }
-    Ok(told)
+    Ok(())
 }
 
 /// How many operators there are.
@@ -237,37 +253,82 @@ fn operator_count(alloc: Global, operators: &OpTable) -> Result<usize, AllocErro
     Ok(list.len())
 }
 
-/// The flags of settings, and whether they have more operators than at the start, or fewer.
-fn flags(alloc: Global, settings: &Settings) -> Result<String, Fail> {
-    let quotes = settings.quotes;
-    let unknown = settings.unknown;
-    let iso = operator_count(alloc, &OpTable::iso(alloc)?)?;
-    let order = operator_count(alloc, &settings.operators)?.cmp(&iso);
-    Ok(format!(in alloc; "{quotes:?} {unknown:?} {order:?}")?)
+/// How many operators there are at the start.
+fn operators_at_start(alloc: Global) -> Result<usize, AllocError> {
+    let iso = OpTable::iso(alloc)?;
+    let count = operator_count(alloc, &iso);
+    forget(iso);
+    count
 }
 
-/// What a call comes to: its text once it is true, `no`, the error, the right sides of several answers, what is written, or what is set.
-pub(crate) fn told(
+/// Adds the flags of settings, and whether they have more operators than at the start, or fewer.
+fn tell_flags(alloc: Global, settings: &Settings, told: &mut String) -> Result<(), Fail> {
+    let quotes = settings.quotes;
+    let unknown = settings.unknown;
+    let iso = operators_at_start(alloc)?;
+    let order = operator_count(alloc, &settings.operators)?.cmp(&iso);
+    write!(told, "{quotes:?} {unknown:?} {order:?}")?;
+    Ok(())
+}
+
+/// Adds the text of bytes.
+fn put_bytes(alloc: Global, bytes: &[u8], told: &mut String) -> Result<(), Fail> {
+    let text = String::from_utf8_lossy(alloc, bytes)?;
+    put_word(told, text.as_str())
+}
+
+/// Adds what a call comes to whose answer speaks of two values, or of a value and an integer: the goal's text once they are one, or `no`; where they were to be different, `yes` or `no`.
+fn tell_pair(
     heap: &mut Heap,
     alloc: Global,
     goal: &Goal,
     answer: &Answer,
-) -> Result<String, Fail>
+    told: &mut String,
+) -> Result<(), Fail>
+    requires goal { IsValue heap.old goal.now.value }
+    requires answer { IsThere heap.old answer.now }
+{
+    match answer {
+        Answer::Unifies(left, right) => {
+            let holds = unified(heap, alloc, *left, *right)?;
+            tell_goal(alloc, heap, goal, holds, told)
+        }
+        Answer::Equals(v, number) => {
+            let holds = equal(heap, alloc, *v, *number)?;
+            tell_goal(alloc, heap, goal, holds, told)
+        }
+        Answer::Differs(left, right) => {
+            let holds = unified(heap, alloc, *left, *right)?;
+            put_word(told, if holds { "no" } else { "yes" })
+        }
+        _ => Err("no answer of two values".into()),
+    }
+}
+
+/// Adds what a call comes to: its text once it is true, `no`, the error, the right sides of several answers, what is written, or what is set.
+pub(crate) fn tell(
+    heap: &mut Heap,
+    alloc: Global,
+    goal: &Goal,
+    answer: &Answer,
+    told: &mut String,
+) -> Result<(), Fail>
     requires goal { IsValue heap.old goal.now.value }
     requires spare { AreValues heap.old goal.now.spare.items }
     requires answer { IsThere heap.old answer.now }
 {
     match answer {
-        Answer::Raises(error) => Ok(text_of(alloc, error)?),
-        Answer::Fails => word(alloc, "no"),
-        Answer::Succeeds => Ok(shown(alloc, heap, goal.value)?),
-        Answer::Unifies(left, right) => unified(heap, alloc, goal.value, *left, *right),
-        Answer::Differs(left, right) => different(heap, alloc, *left, *right),
-        Answer::Equals(v, number) => equal(heap, alloc, goal.value, *v, *number),
-        Answer::Solves(equation) => solved(heap, alloc, goal, equation),
-        Answer::Several(values, turn) => answers_of(alloc, heap, values, *turn),
-        Answer::Groups(values, groups) => of_groups(heap, alloc, goal, values, groups),
-        Answer::Writes(bytes) => Ok(String::from_utf8_lossy(alloc, bytes)?),
-        Answer::Sets(settings) => flags(alloc, settings),
+        Answer::Raises(error) => put_term(alloc, error, told),
+        Answer::Fails => put_word(told, "no"),
+        Answer::Succeeds => show(alloc, heap, goal.value, told),
+        Answer::Solves(equation) => tell_solved(heap, alloc, goal, equation, told),
+        Answer::Several(values, turn) => tell_answers(alloc, heap, values, *turn, told),
+        Answer::Groups(values, groups) => {
+            let text = of_groups(heap, alloc, goal, values, groups)?;
+            put_word(told, text.as_str())
+        }
+        Answer::Writes(bytes) => put_bytes(alloc, bytes, told),
+        Answer::Sets(settings) => tell_flags(alloc, settings, told),
+        _ => tell_pair(heap, alloc, goal, answer, told),
     }
 }

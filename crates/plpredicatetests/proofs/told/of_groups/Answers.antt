@@ -11,7 +11,7 @@ all_still old new (v ∷ vs) still are = (still v are.0, all_still old new vs st
 pub loop-group-preserved : goal.loop-group-preserved
 loop-group-preserved c =
     let before = c.loop-group.invariant in
-    let still = c.in_ok-text.ensures in
+    let still = c.in_ok-is_one.ensures in
     record {
       goal = still c.args.goal.now.value before.goal;
       spare = all_still c.loop-group.heap c.of_group.new.heap c.args.goal.now.spare.items still before.spare;
