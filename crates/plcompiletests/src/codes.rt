@@ -9,6 +9,7 @@ use plcode::program::ProgramCode;
 use plmade::code::code_of;
 use std::alloc::Global;
 use std::fmt::Write;
+use std::mem::forget;
 use std::string::String;
 use std::test::Fail;
 
@@ -83,10 +84,12 @@ fn told_in(alloc: Global, code: &ProgramCode, asks: Asks) -> Result<String, Fail
     }
 }
 
-/// The same of a text's program.
+/// The same of a text's program, whose code is not given back: a test's process ends soon.
 fn told_of(alloc: Global, text: &str, asks: Asks) -> Result<String, Fail> {
     let code = code_of(alloc, text)?;
-    told_in(alloc, &code, asks)
+    let done = told_in(alloc, &code, asks);
+    forget(code);
+    done
 }
 
 impl Asking for Asks {

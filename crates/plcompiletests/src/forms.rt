@@ -15,6 +15,7 @@ use plterm::term::Term;
 use pltx::level::Isolation;
 use std::alloc::Global;
 use std::fmt::Write;
+use std::mem::forget;
 use std::string::String;
 use std::test::Fail;
 
@@ -62,13 +63,23 @@ fn word(form: Form) -> &'static str {
     }
 }
 
-/// The place of the procedure of the text that a goal calls, if it calls one, and what the goal is.
-fn form_in(
+/// Adds the word of a form, and the place of a procedure, if there is one.
+fn put_form(place: Option<u32>, word: &str, told: &mut String) -> Result<(), Fail> {
+    told.push_str(word)?;
+    if let Some(place) = place {
+        write!(told, " {place}")?;
+    }
+    Ok(())
+}
+
+/// Adds what a goal is, and the place of the procedure of the text that it calls, if it calls one.
+fn tell_in(
     alloc: Global,
     code: &ProgramCode,
     env: &mut Environment,
     goal: &Term,
-) -> Result<(Option<u32>, &'static str), Fail>
+    told: &mut String,
+) -> Result<(), Fail>
     requires code { (P : Given) × IsProgramCode P code.now }
     requires names { ExtendsNames code.now.text.names env.old.heap.names }
 {
@@ -79,123 +90,122 @@ fn form_in(
     };
     let place = static_of(code, number);
     let form = form_of(env.heap(), code, number, &args);
-    Ok((place, word(form)))
+    put_form(place, word(form), told)
 }
 
-/// The same of a goal in an environment with nothing in it.
-fn form(alloc: Global, code: &ProgramCode, goal: &Term) -> Result<(Option<u32>, &'static str), Fail>
+/// The same of a goal in an environment with nothing in it, which is not given back: a test's process ends soon.
+fn tell(alloc: Global, code: &ProgramCode, goal: &Term, told: &mut String) -> Result<(), Fail>
     requires { (P : Given) × IsProgramCode P code.now }
 {
     let mut env = environment_of(alloc, code)?;
-    form_in(alloc, code, &mut env, goal)
+    let done = tell_in(alloc, code, &mut env, goal, told);
+    forget(env);
+    done
 }
 
-/// Adds the goal of a text, where it is not of this form.
-fn put_other(
-    others: &mut String,
-    alloc: Global,
-    code: &ProgramCode,
-    text: &str,
-    wanted: (Option<u32>, &str),
-) -> Result<(), Fail>
+/// Adds what the goal of a row is, where it is not what the row says.
+fn put_other(others: &mut String, alloc: Global, code: &ProgramCode, row: &str) -> Result<(), Fail>
     requires { (P : Given) × IsProgramCode P code.now }
 {
+    let Some((text, wanted)) = row.split_once(" => ") else {
+        return Err("no row".into());
+    };
     let goal = goal_of(alloc, text)?;
-    let (place, word) = form(alloc, code, &goal)?;
-    if place != wanted.0 || word != wanted.1 {
-        write!(others, "{text}: {word}, ")?;
+    let mut found = String::new(alloc);
+    tell(alloc, code, &goal, &mut found)?;
+    if found.as_str() != wanted {
+        write!(others, "{text}: {found}, ")?;
     }
     Ok(())
 }
 
-/// A goal, the place of the procedure of the text that it calls, if it calls one, and what it is.
-type FormRow = (&'static str, Option<u32>, &'static str);
+/// Goals that call procedures of the text or none, and goals of built-in predicates and predicates on clauses (7.8, 8): each with what it is and
+/// with the place of the procedure of the text that it calls, if it calls one.
+const CALLS: &str = "\
+p => static 0
+q => static 1
+r(X) => static 2
+r => unknown
+r(X, Y) => unknown
+d(1) => unknown
+new => unknown
+nl => built-in
+X = a => built-in
+asserta(a) => add in front
+assertz(a) => add behind
+clause(a, X) => retrieve
+retract(a) => retract
+retractall(a) => retract all
+dynamic(a/0) => declare
+halt => halt
+halt(1) => halt with
+halt(1, 2) => unknown";
 
-/// Goals that call procedures of the text or none, and goals of built-in predicates and predicates on clauses (7.8, 8).
-const CALLS: [FormRow; 18] = [
-    ("p", Some(0), "static"),
-    ("q", Some(1), "static"),
-    ("r(X)", Some(2), "static"),
-    ("r", None, "unknown"),
-    ("r(X, Y)", None, "unknown"),
-    ("d(1)", None, "unknown"),
-    ("new", None, "unknown"),
-    ("nl", None, "built-in"),
-    ("X = a", None, "built-in"),
-    ("asserta(a)", None, "add in front"),
-    ("assertz(a)", None, "add behind"),
-    ("clause(a, X)", None, "retrieve"),
-    ("retract(a)", None, "retract"),
-    ("retractall(a)", None, "retract all"),
-    ("dynamic(a/0)", None, "declare"),
-    ("halt", None, "halt"),
-    ("halt(1)", None, "halt with"),
-    ("halt(1, 2)", None, "unknown"),
-];
+/// Goals that are control constructs, each with what it is: `->`/2 on the left side of `;`/2 makes the two one construct (7.8.8).
+const CONTROLS: &str = "\
+true => true
+fail => false
+false => false
+a, b => both
+a ; b => either
+(a ; b) ; c => either
+a ; b -> c => either
+a -> b => then
+a -> b ; c => else
+\\+ a => not
+once(a) => once
+catch(a, X, b) => catch
+findall(X, a, Y) => findall
+transaction(a) => transaction
+snapshot(a) => snapshot
+throw(a) => throw
+call(a) => call with
+call(a, b, c, d) => call with
+! => cut";
 
-/// Goals that are control constructs: `->`/2 on the left side of `;`/2 makes the two one construct (7.8.8).
-const CONTROLS: [FormRow; 19] = [
-    ("true", None, "true"),
-    ("fail", None, "false"),
-    ("false", None, "false"),
-    ("a, b", None, "both"),
-    ("a ; b", None, "either"),
-    ("(a ; b) ; c", None, "either"),
-    ("a ; b -> c", None, "either"),
-    ("a -> b", None, "then"),
-    ("a -> b ; c", None, "else"),
-    ("\\+ a", None, "not"),
-    ("once(a)", None, "once"),
-    ("catch(a, X, b)", None, "catch"),
-    ("findall(X, a, Y)", None, "findall"),
-    ("transaction(a)", None, "transaction"),
-    ("snapshot(a)", None, "snapshot"),
-    ("throw(a)", None, "throw"),
-    ("call(a)", None, "call with"),
-    ("call(a, b, c, d)", None, "call with"),
-    ("!", None, "cut"),
-];
-
-/// Adds the goals that are not what rows say.
+/// Adds the goals that are not what the rows of a text say.
 fn put_others(
     others: &mut String,
     alloc: Global,
     code: &ProgramCode,
-    rows: &[FormRow],
+    rows: &str,
 ) -> Result<(), Fail>
     requires { (P : Given) × IsProgramCode P code.now }
 {
-    for (text, place, wanted) in rows {
-        put_other(others, alloc, code, text, (*place, wanted))?;
+    for row in rows.lines() {
+        put_other(others, alloc, code, row)?;
     }
     Ok(())
 }
 
-/// The goals of a program's code that are not what the rows say.
-fn others_in(alloc: Global, code: &ProgramCode) -> Result<String, Fail>
+/// Adds the goals of a program's code that are not what the rows say.
+fn put_all(others: &mut String, alloc: Global, code: &ProgramCode) -> Result<(), Fail>
     requires { (P : Given) × IsProgramCode P code.now }
 {
-    let mut others = String::new(alloc);
-    put_others(&mut others, alloc, code, &CALLS)?;
-    put_others(&mut others, alloc, code, &CONTROLS)?;
-    Ok(others)
+    put_others(others, alloc, code, CALLS)?;
+    put_others(others, alloc, code, CONTROLS)
 }
 
-/// The same of a program.
-fn others_of(alloc: Global, program: &Program) -> Result<String, Fail> {
+/// The same of a program. Its code is not given back: a test's process ends soon.
+fn put_all_of(others: &mut String, alloc: Global, program: &Program) -> Result<(), Fail> {
     let code = ProgramCode::new(alloc, program)?;
-    others_in(alloc, &code)
+    let done = put_all(others, alloc, &code);
+    forget(code);
+    done
 }
 
-/// The same of the program that the rows are of.
-fn others(alloc: Global) -> Result<String, Fail> {
+/// The same of the program that the rows are of, which is not given back either.
+fn put_of_program(others: &mut String, alloc: Global) -> Result<(), Fail> {
     let program = program(alloc, PROGRAM)?;
-    others_of(alloc, &program)
+    let done = put_all_of(others, alloc, &program);
+    forget(program);
+    done
 }
 
 #[test]
 fn rows_of_goals(rt: HostRuntime) -> Result<(), Fail> {
-    let found = others(rt.alloc())?;
-    assert_eq!(rt; found.as_str(), "");
+    let mut others = String::new(rt.alloc());
+    put_of_program(&mut others, rt.alloc())?;
+    assert_eq!(rt; others.as_str(), "");
     Ok(())
 }

@@ -24,6 +24,7 @@ use plmade::made::{goal_of, shown};
 use plterm::term::Term;
 use std::alloc::{AllocError, Global};
 use std::fmt::Write;
+use std::mem::forget;
 use std::string::String;
 use std::test::Fail;
 
@@ -299,7 +300,7 @@ fn lay_one(
     Ok(at)
 }
 
-/// What is told of a term once it is laid down, its variables below a count, and this is done with it.
+/// What is told of a term once it is laid down, its variables below a count, and this is done with it. The environment is not given back: a test's process ends soon.
 fn told_of(alloc: Global, term: &Term, width: u32, doing: Doing) -> Result<String, Fail>
     requires { AllBelow width term.now }
 {
@@ -307,7 +308,9 @@ fn told_of(alloc: Global, term: &Term, width: u32, doing: Doing) -> Result<Strin
     let mut nodes = Vec::new(alloc);
     let at = lay_one(alloc, &mut nodes, &mut names, term)?;
     let mut env = Environment::new(alloc, names);
-    entered(&mut env, alloc, &nodes, Laid { at, width }, doing)
+    let done = entered(&mut env, alloc, &nodes, Laid { at, width }, doing);
+    forget(env);
+    done
 }
 
 /// The same of a goal, its variables numbered from 0 on.

@@ -17,6 +17,7 @@ use plterm::term::Term;
 use plterm::walk::{Shape, TermRef};
 use std::alloc::{AllocError, Global};
 use std::fmt::Write;
+use std::mem::forget;
 use std::string::String;
 use std::test::Fail;
 
@@ -46,10 +47,12 @@ fn keys_in(alloc: Global, code: &mut Draft, goal: &Term) -> Result<String, Fail>
     Ok(format!(in alloc; "{left} {right} {same}")?)
 }
 
-/// The same in the code of no clauses.
+/// The same in the code of no clauses, which is not given back: a test's process ends soon.
 fn keys(alloc: Global, goal: &Term) -> Result<String, Fail> {
     let mut code = Draft::new(alloc)?;
-    keys_in(alloc, &mut code, goal)
+    let done = keys_in(alloc, &mut code, goal);
+    forget(code);
+    done
 }
 
 /// The words of the steps.
@@ -74,7 +77,9 @@ fn body(alloc: Global, body: &Term) -> Result<String, Fail> {
     let mut draft = Draft::new(alloc)?;
     let at = compiled(alloc, &mut draft, body)?;
     let (code, _names) = Code::of(draft);
-    code_text(alloc, &code, at)
+    let done = code_text(alloc, &code, at);
+    forget(code);
+    done
 }
 
 /// The same of a goal, its variables numbered from 0 on.
@@ -261,10 +266,12 @@ fn step_otherwise(
     Ok(None)
 }
 
-/// The same of the program of the rows.
+/// The same of the program of the rows, whose code is not given back: a test's process ends soon.
 fn other_step(alloc: Global) -> Result<Option<u32>, Fail> {
     let code = code_of(alloc, "p :- q, r. q.")?;
-    step_otherwise(alloc, &code, &STEPS)
+    let done = step_otherwise(alloc, &code, &STEPS);
+    forget(code);
+    done
 }
 
 #[test]

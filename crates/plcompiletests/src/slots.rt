@@ -4,6 +4,7 @@ use plenv::env::Environment;
 use plenv::slot::Slot;
 use plmade::made::empty;
 use std::alloc::{AllocError, Global};
+use std::mem::forget;
 use std::test::Fail;
 
 /// The slots of a clause with three variables, behind those of one with two: whether they begin where they are to, and so many slots and variables
@@ -123,10 +124,12 @@ fn is_done(env: &mut Environment, doing: Doing) -> Result<bool, AllocError> {
     }
 }
 
-/// The same in an environment with nothing in it.
+/// The same in an environment with nothing in it, which is not given back: a test's process ends soon.
 fn does(alloc: Global, doing: Doing) -> Result<bool, AllocError> {
     let mut env = empty(alloc);
-    is_done(&mut env, doing)
+    let done = is_done(&mut env, doing);
+    forget(env);
+    done
 }
 
 /// The first that comes to something else.

@@ -23,6 +23,7 @@ use plprogram::program::Program;
 use plterm::term::Term;
 use std::alloc::{AllocError, Global};
 use std::fmt::Write;
+use std::mem::forget;
 use std::string::String;
 use std::test::Fail;
 
@@ -66,12 +67,14 @@ pub(crate) fn sequence<S: Steps>(alloc: Global, steps: &S, at: u32) -> Result<St
     Ok(found)
 }
 
-/// Compiles a body: the place of its first step.
+/// Compiles a body: the place of its first step. The table of names is not given back: a test's process ends soon.
 pub(crate) fn compiled(alloc: Global, code: &mut Draft, body: &Term) -> Result<u32, AllocError>
     requires { IsCode (text_of code.old) }
 {
     let kinds = NameTable::new(alloc)?;
-    compile_body(alloc, code, &kinds, &body.root())
+    let done = compile_body(alloc, code, &kinds, &body.root());
+    forget(kinds);
+    done
 }
 
 /// The steps of a body.
@@ -178,11 +181,13 @@ fn laid_in(alloc: Global, names: &mut Names, term: &Term) -> Result<String, Fail
     Ok(format!(in alloc; "{text}at {at}")?)
 }
 
-/// The same of a goal, its variables numbered from 0 on.
+/// The same of a goal, its variables numbered from 0 on. The names are not given back: a test's process ends soon.
 fn laid(alloc: Global, goal: &Term) -> Result<String, Fail> {
     let term = goal.copy(alloc, 0)?;
     let mut names = Names::new(alloc);
-    laid_in(alloc, &mut names, &term)
+    let done = laid_in(alloc, &mut names, &term);
+    forget(names);
+    done
 }
 
 /// The word of what is called.
@@ -202,10 +207,12 @@ fn number_in(alloc: Global, names: &mut Names, text: &str) -> Result<u32, Fail> 
     Ok(names.atom(&name)?)
 }
 
-/// The same in a copy of the table of a program's code.
+/// The same in a copy of the table of a program's code, which is not given back: a test's process ends soon.
 pub(crate) fn number_of(alloc: Global, code: &ProgramCode, text: &str) -> Result<u32, Fail> {
     let mut names = code.names().copied(alloc)?;
-    number_in(alloc, &mut names, text)
+    let done = number_in(alloc, &mut names, text);
+    forget(names);
+    done
 }
 
 /// What the atom of a text is called as.
@@ -215,10 +222,12 @@ fn callee_in(alloc: Global, code: &ProgramCode, text: &str) -> Result<String, Fa
     Ok(callee_word(&callee).to_string(alloc)?)
 }
 
-/// The same in a program of two procedures without arguments.
+/// The same in a program of two procedures without arguments, whose code is not given back: a test's process ends soon.
 fn callee(alloc: Global, text: &str) -> Result<String, Fail> {
     let code = code_of(alloc, "p :- q. q. r(s).")?;
-    callee_in(alloc, &code, text)
+    let done = callee_in(alloc, &code, text);
+    forget(code);
+    done
 }
 
 /// What is asked of a text.
@@ -251,15 +260,17 @@ fn told_of_goal(alloc: Global, code: &mut Draft, asks: Asks, text: &str) -> Resu
     }
 }
 
-/// What is told of the program of a text.
+/// What is told of the program of a text, which is not given back: a test's process ends soon.
 fn told_of_program(alloc: Global, code: &mut Draft, asks: Asks, text: &str) -> Result<String, Fail>
     requires { IsCode (text_of code.old) }
 {
     let program = program(alloc, text)?;
-    match asks {
+    let done = match asks {
         Asks::Clause => first_clause(alloc, code, &program),
         _ => counts(alloc, code, &program),
-    }
+    };
+    forget(program);
+    done
 }
 
 /// What is told of a text, compiled into the code of no clauses.
@@ -276,7 +287,10 @@ fn told_in(alloc: Global, code: &mut Draft, asks: Asks, text: &str) -> Result<St
 impl Asking for Asks {
     fn told(&self, alloc: Global, text: &str) -> Result<String, Fail> {
         let mut code = Draft::new(alloc)?;
-        told_in(alloc, &mut code, *self, text)
+        let done = told_in(alloc, &mut code, *self, text);
+        // A test's process ends soon.
+        forget(code);
+        done
     }
 }
 
