@@ -6,8 +6,8 @@ use Rattle.plload.specs.declared.error.RefusalKind.TheVariants.{NotCallable, Sta
 use Rattle.plops.specs.declared.operator.Kind.TheVariants.{Xfx}
 use Rattle.plops.specs.declared.flag.Quotes.TheVariants.{Atom}
 use Rattle.plprogram.specs.declared.change.Flag.TheVariants.{Quotes}
-use Rattle.plnames.specs.Names.{rows, kept, directives, is_fixed}
-use Rattle.plload.specs.Meaning.{Adds, Runs, Declares, Operates, Sets, Passes, Refused, directive_meaning, meaning}
+use Rattle.plnames.specs.Names.{rows, kept, is_fixed}
+use Rattle.plload.specs.Meaning.{Adds, Runs, Declares, Operates, Sets, Passes, Refused, meaning}
 use Rattle.plload.specs.Position.{line_of, column_of}
 use Rattle.plprogram.specs.Program.{procedures_of, clauses_in}
 
@@ -45,27 +45,22 @@ grammar_rule = refl
 
 -- :- initialization(p(V4)).
 run : meaning (one (codes ":-") (one (codes "initialization") (one (codes "p") (var 4)))) ≡ Runs (one (codes "p") (var 0))
-unfolding directive_meaning directives
 run = refl
 
 -- :- p.
 other_directive : meaning (one (codes ":-") (atom (codes "p"))) ≡ Runs (atom (codes "p"))
-unfolding directive_meaning directives
 other_directive = refl
 
 -- :- initialization.
 bare : meaning (one (codes ":-") (atom (codes "initialization"))) ≡ Refused BadDirective
-unfolding directive_meaning directives
 bare = refl
 
 -- :- X.
 variable_directive : meaning (one (codes ":-") (var 0)) ≡ Refused BadDirective
-unfolding directive_meaning
 variable_directive = refl
 
 -- :- initialization(X).
 variable_goal : meaning (one (codes ":-") (one (codes "initialization") (var 0))) ≡ Refused BadDirective
-unfolding directive_meaning directives
 variable_goal = refl
 
 -- two clauses of a procedure, with one of another between them
@@ -80,37 +75,34 @@ abbrev p_1 : Tree
 p_1 = slash (atom (codes "p")) (int (pos 1))
 
 dynamic_one : meaning (one (codes ":-") (one (codes "dynamic") p_1)) ≡ Declares (record { name = codes "p"; arity = 1 } ∷ [])
-unfolding rows kept directive_meaning directives
+unfolding rows kept
 dynamic_one = refl
 
 -- :- dynamic((p/1, q/0)).
 dynamic_two : meaning (one (codes ":-") (one (codes "dynamic") (two (codes ",") p_1 (slash (atom (codes "q")) (int (pos 0)))))) ≡ Declares (record { name = codes "p"; arity = 1 } ∷ record { name = codes "q"; arity = 0 } ∷ [])
-unfolding rows kept directive_meaning directives
+unfolding rows kept
 dynamic_two = refl
 
 -- :- dynamic([p/1]).
 dynamic_list : meaning (one (codes ":-") (one (codes "dynamic") (two (codes ".") p_1 (atom (codes "[]"))))) ≡ Declares (record { name = codes "p"; arity = 1 } ∷ [])
-unfolding rows kept directive_meaning directives
+unfolding rows kept
 dynamic_list = refl
 
 -- :- dynamic([p/1|X]).
 dynamic_partial : meaning (one (codes ":-") (one (codes "dynamic") (two (codes ".") p_1 (var 0)))) ≡ Refused BadDirective
-unfolding directive_meaning directives
 dynamic_partial = refl
 
 -- :- dynamic(write/1).
 dynamic_built_in : meaning (one (codes ":-") (one (codes "dynamic") (slash (atom (codes "write")) (int (pos 1))))) ≡ Refused BadDirective
-unfolding rows kept directive_meaning directives
+unfolding rows kept
 dynamic_built_in = refl
 
 -- :- dynamic.
 dynamic_atom : meaning (one (codes ":-") (atom (codes "dynamic"))) ≡ Refused BadDirective
-unfolding directive_meaning directives
 dynamic_atom = refl
 
 -- :- multifile(write/1).
 multifile_passes : meaning (one (codes ":-") (one (codes "multifile") (slash (atom (codes "write")) (int (pos 1))))) ≡ Passes
-unfolding directive_meaning directives
 multifile_passes = refl
 
 -- ?- dynamic(p/1).
@@ -119,27 +111,22 @@ query = refl
 
 -- :- op(700, xfx, ===>).
 operator : meaning (one (codes ":-") (compound (codes "op") (more (int (pos 700)) (more (atom (codes "xfx")) (more (atom (codes "===>")) none))))) ≡ Operates 700 Xfx (codes "===>" ∷ [])
-unfolding directive_meaning directives
 operator = refl
 
 -- :- set_prolog_flag(double_quotes, atom).
 flag : meaning (one (codes ":-") (two (codes "set_prolog_flag") (atom (codes "double_quotes")) (atom (codes "atom")))) ≡ Sets (Quotes Atom)
-unfolding directive_meaning directives
 flag = refl
 
 -- :- set_prolog_flag(bounded, true).
 flag_read_only : meaning (one (codes ":-") (two (codes "set_prolog_flag") (atom (codes "bounded")) (atom (codes "true")))) ≡ Refused BadDirective
-unfolding directive_meaning directives
 flag_read_only = refl
 
 -- :- use_module(library(lists)).
 library : meaning (one (codes ":-") (one (codes "use_module") (one (codes "library") (atom (codes "lists"))))) ≡ Passes
-unfolding directive_meaning directives
 library = refl
 
 -- :- module(m, []).
 module_directive : meaning (one (codes ":-") (two (codes "module") (atom (codes "m")) (atom (codes "[]")))) ≡ Refused BadDirective
-unfolding directive_meaning directives
 module_directive = refl
 
 fixed_once : is_fixed (record { name = codes "once"; arity = 1 }) ≡ true

@@ -1,6 +1,7 @@
 -- What a clause of a program's text does.
 use Rattle.std.specs.Prelude.{ℕ, pos, negsuc, Bool, true, false, ◌||◌, nat_le, if◌then◌else◌, List, [], ◌∷◌, codes, Option, Some, None, is_some, Result, Ok, Err}
 use Rattle.std.specs.List.{list_any}
+use Rattle.std.specs.Str.{bytes_eq}
 use Rattle.plterm.specs.Tree.{Tree, var, int, atom, compound, list_of}
 use Rattle.plterm.specs.Variables.{copied}
 use Rattle.plterm.specs.declared.indicator.Indicator.{Indicator}
@@ -15,9 +16,7 @@ use Rattle.plprogram.specs.declared.change.Flag.{Flag}
 use Rattle.plprogram.specs.declared.change.FlagError.{FlagError}
 use Rattle.plload.specs.declared.error.RefusalKind.{RefusalKind}
 use Rattle.plload.specs.declared.error.RefusalKind.TheVariants.{NotCallable, StaticRedefined, BadDirective}
-use Rattle.plnames.specs.declared.kind.Directive.{Directive}
-use Rattle.plnames.specs.declared.kind.Directive.TheVariants as directives
-use Rattle.plnames.specs.Names.{directive_of, is_fixed, is_named}
+use Rattle.plnames.specs.Names.{is_fixed, is_named}
 use Rattle.plclause.specs.Lists.{only_argument, elements, is_list}
 use Rattle.plclause.specs.Named.{name_of, number_to, each_of, indicators}
 
@@ -82,53 +81,46 @@ operator_meaning (Some p) (Some k) None = bad
 operator_meaning (Some p) None names = bad
 operator_meaning None k names = bad
 
--- a directive by its kind and arguments; of no kind, none
-abbrev pub of_one : Option Directive → Tree → Option Meaning
-of_one None a = None
-of_one (Some directives.Run) a = Some (goal_meaning a)
-of_one (Some directives.Declare) a = Some (dynamic_meaning (indicators a))
-of_one (Some directives.Spread) a = Some (passes_if (is_some (indicators a)))
-of_one (Some directives.Import) a = Some (passes_if (is_library a))
-of_one (Some directives.Operator) a = Some bad
-of_one (Some directives.Flag) a = Some bad
-of_one (Some directives.Refused) a = Some bad
+-- a directive by its name and arguments; of another name, none
+abbrev pub of_one : List ℕ → Tree → Option Meaning
+of_one s a =
+    if bytes_eq s (codes "initialization") then Some (goal_meaning a)
+    else (if bytes_eq s (codes "dynamic") then Some (dynamic_meaning (indicators a))
+    else (if bytes_eq s (codes "discontiguous") || bytes_eq s (codes "multifile") then Some (passes_if (is_some (indicators a)))
+    else (if bytes_eq s (codes "use_module") then Some (passes_if (is_library a))
+    else (if bytes_eq s (codes "thread_local") then Some bad else None))))
 
-abbrev pub of_two : Option Directive → Tree → Tree → Option Meaning
-of_two None a b = None
-of_two (Some directives.Flag) a b = Some (flag_meaning (name_of a) (name_of b))
-of_two (Some directives.Import) a b = Some (passes_if (is_library a))
-of_two (Some directives.Run) a b = Some bad
-of_two (Some directives.Declare) a b = Some bad
-of_two (Some directives.Spread) a b = Some bad
-of_two (Some directives.Operator) a b = Some bad
-of_two (Some directives.Refused) a b = Some bad
+abbrev pub of_two : List ℕ → Tree → Tree → Option Meaning
+of_two s a b =
+    if bytes_eq s (codes "set_prolog_flag") then Some (flag_meaning (name_of a) (name_of b))
+    else (if bytes_eq s (codes "use_module") then Some (passes_if (is_library a))
+    else (if bytes_eq s (codes "module") then Some bad else None))
 
-abbrev pub of_three : Option Directive → Tree → Tree → Tree → Option Meaning
-of_three None a b c = None
-of_three (Some directives.Operator) a b c = Some (operator_meaning (number_to 1200 a) (kind_in (name_of b)) (names_of c))
-of_three (Some directives.Run) a b c = Some bad
-of_three (Some directives.Declare) a b c = Some bad
-of_three (Some directives.Spread) a b c = Some bad
-of_three (Some directives.Flag) a b c = Some bad
-of_three (Some directives.Import) a b c = Some bad
-of_three (Some directives.Refused) a b c = Some bad
+abbrev pub of_three : List ℕ → Tree → Tree → Tree → Option Meaning
+of_three s a b c = if bytes_eq s (codes "op") then Some (operator_meaning (number_to 1200 a) (kind_in (name_of b)) (names_of c)) else None
 
 abbrev pub of_args : List ℕ → List Tree → Option Meaning
 of_args s [] = None
-of_args s (a ∷ []) = of_one (directive_of s 1) a
-of_args s (a ∷ b ∷ []) = of_two (directive_of s 2) a b
-of_args s (a ∷ b ∷ c ∷ []) = of_three (directive_of s 3) a b c
+of_args s (a ∷ []) = of_one s a
+of_args s (a ∷ b ∷ []) = of_two s a b
+of_args s (a ∷ b ∷ c ∷ []) = of_three s a b c
 of_args s (a ∷ b ∷ c ∷ d ∷ ts) = None
+
+-- the name of a directive, as an atom, is none
+abbrev pub is_directive_name : List ℕ → Bool
+is_directive_name s =
+    bytes_eq s (codes "dynamic") || bytes_eq s (codes "discontiguous") || bytes_eq s (codes "multifile") || bytes_eq s (codes "op")
+    || bytes_eq s (codes "set_prolog_flag") || bytes_eq s (codes "initialization") || bytes_eq s (codes "use_module")
 
 abbrev pub or_goal : Option Meaning → Tree → Meaning
 or_goal (Some m) t = m
 or_goal None t = goal_meaning t
 
 -- what a directive does; one of another name is a goal of main (7.4.2)
-unfoldable pub directive_meaning : Tree → Meaning
+abbrev pub directive_meaning : Tree → Meaning
 directive_meaning (var v) = bad
 directive_meaning (int i) = bad
-directive_meaning (atom s) = if is_some (directive_of s 0) then bad else goal_meaning (atom s)
+directive_meaning (atom s) = if is_directive_name s then bad else goal_meaning (atom s)
 directive_meaning (compound s ts) = or_goal (of_args s (list_of ts)) (compound s ts)
 
 -- a clause is added to its procedure

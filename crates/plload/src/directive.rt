@@ -4,7 +4,7 @@ ghost use Rattle.std.specs.List.{list_any};
 ghost use Rattle.plnames.specs.Names.{is_fixed};
 ghost use Rattle.plclause.specs.Lists.{each, elements, is_list};
 ghost use Rattle.plclause.specs.Named.{name_of, number_to, indicators};
-ghost use Rattle.plload.specs.Meaning.{bad, goal_meaning, directive_meaning, of_args, of_one, of_two, of_three, dynamic_meaning, passes_if, is_library, flag_meaning, operator_meaning, kind_in, names_of};
+ghost use Rattle.plload.specs.Meaning.{goal_meaning, directive_meaning, is_directive_name, of_args, of_one, of_two, of_three, dynamic_meaning, passes_if, is_library, flag_meaning, operator_meaning, kind_in, names_of};
 ghost use Rattle.plload.specs.Shown.{shown};
 
 use crate::error::RefusalKind;
@@ -12,7 +12,6 @@ use crate::meaning::Meaning;
 use plclause::convert::convert;
 use plclause::lists::{argument_of, elements_of, is_list};
 use plclause::named::{indicators_of, name_of, number_to};
-use plnames::kind::Directive;
 use plnames::table::NameTable;
 use plops::operator::Kind;
 use plprogram::change::{flag_named, kind_named};
@@ -22,7 +21,6 @@ use plterm::walk::{Shape, TermRef, Terms};
 use std::alloc::{AllocError, Global};
 
 /// What a directive does (ISO/IEC 13211-1 7.4.2); one of a name that no directive has is a goal of main.
-#[tactic(auto, unfolding(crate::specs::Meaning::directive_meaning))]
 pub fn directive_of(
     alloc: Global,
     names: &NameTable,
@@ -31,10 +29,10 @@ pub fn directive_of(
     ensures { IfOk result (λ m. shown m ≡ directive_meaning directive.now) }
 {
     match directive.shape() {
-        Shape::Var(_) | Shape::Int(_) => return Ok(bad()),
+        Shape::Var(_) | Shape::Int(_) => return Ok(Meaning::Refused(RefusalKind::BadDirective)),
         Shape::Atom(name) => {
-            if names.directive_of(name.as_str(), 0).is_some() {
-                return Ok(bad());
+            if is_directive_name(name.as_str()) {
+                return Ok(Meaning::Refused(RefusalKind::BadDirective));
             }
         }
         Shape::Compound(name, args) => {
@@ -51,12 +49,28 @@ pub fn goal_of(alloc: Global, goal: &TermRef<'_>) -> Result<Meaning, AllocError>
     ensures { IfOk result (λ m. shown m ≡ goal_meaning goal.now) }
 {
     match goal.shape() {
-        Shape::Var(_) | Shape::Int(_) => return Ok(bad()),
+        Shape::Var(_) | Shape::Int(_) => return Ok(Meaning::Refused(RefusalKind::BadDirective)),
         Shape::Atom(_) | Shape::Compound(_, _) => {}
     }
     match convert(alloc, goal)? {
-        None => Ok(bad()),
+        None => Ok(Meaning::Refused(RefusalKind::BadDirective)),
         Some(_) => Ok(Meaning::Runs(goal.copied(alloc)?.copy(alloc, 0)?)),
+    }
+}
+
+/// Whether directives have this name.
+fn is_directive_name(name: &str) -> bool
+    ensures { result ≡ is_directive_name name.now }
+{
+    match name {
+        "dynamic"
+        | "discontiguous"
+        | "multifile"
+        | "op"
+        | "set_prolog_flag"
+        | "initialization"
+        | "use_module" => true,
+        _ => false,
     }
 }
 
@@ -73,93 +87,77 @@ fn of_args(
         return Ok(None);
     };
     let Some(b) = args.next_term() else {
-        return of_one(alloc, names, names.directive_of(name, 1), &a);
+        return of_one(alloc, names, name, &a);
     };
     let Some(c) = args.next_term() else {
-        return Ok(of_two(names.directive_of(name, 2), &a, &b));
+        return of_two(name, &a, &b);
     };
     if args.is_empty() {
-        return of_three(alloc, names.directive_of(name, 3), &a, &b, &c);
+        return of_three(alloc, name, &a, &b, &c);
     }
     Ok(None)
 }
 
-/// A directive of one argument, by its kind.
+/// A directive of one argument.
 fn of_one(
     alloc: Global,
     names: &NameTable,
-    kind: Option<Directive>,
+    name: &str,
     a: &TermRef<'_>,
 ) -> Result<Option<Meaning>, AllocError>
-    ensures { IfOk result (λ o. option_map shown o ≡ of_one kind a.now) }
+    ensures { IfOk result (λ o. option_map shown o ≡ of_one name.now a.now) }
 {
-    let Some(kind) = kind else {
-        return Ok(None);
-    };
-    let meaning = match kind {
-        Directive::Run => goal_of(alloc, a)?,
-        Directive::Declare => dynamic_of(alloc, names, a)?,
-        Directive::Spread => passes_if(indicators_of(alloc, a)?.is_some()),
-        Directive::Import => passes_if(is_library(a)),
-        Directive::Operator | Directive::Flag | Directive::Refused => bad(),
-    };
-    Ok(Some(meaning))
-}
-
-/// A directive of two arguments, by its kind.
-fn of_two(kind: Option<Directive>, a: &TermRef<'_>, b: &TermRef<'_>) -> Option<Meaning>
-    ensures { option_map shown result ≡ of_two kind a.now b.now }
-{
-    match kind? {
-        Directive::Flag => Some(flag_of(name_of(a), name_of(b))),
-        Directive::Import => Some(passes_if(is_library(a))),
-        Directive::Run
-        | Directive::Declare
-        | Directive::Spread
-        | Directive::Operator
-        | Directive::Refused => Some(bad()),
+    match name {
+        "initialization" => Ok(Some(goal_of(alloc, a)?)),
+        "dynamic" => Ok(Some(dynamic_of(alloc, names, a)?)),
+        "discontiguous" | "multifile" => {
+            let named = indicators_of(alloc, a)?.is_some();
+            Ok(Some(passes_if(named)))
+        }
+        "use_module" => Ok(Some(passes_if(is_library(a)))),
+        "thread_local" => Ok(Some(Meaning::Refused(RefusalKind::BadDirective))),
+        _ => Ok(None),
     }
 }
 
-/// A directive of three arguments, by its kind.
+/// A directive of two arguments.
+fn of_two(name: &str, a: &TermRef<'_>, b: &TermRef<'_>) -> Result<Option<Meaning>, AllocError>
+    ensures { IfOk result (λ o. option_map shown o ≡ of_two name.now a.now b.now) }
+{
+    match name {
+        "set_prolog_flag" => Ok(Some(flag_of(name_of(a), name_of(b)))),
+        "use_module" => Ok(Some(passes_if(is_library(a)))),
+        "module" => Ok(Some(Meaning::Refused(RefusalKind::BadDirective))),
+        _ => Ok(None),
+    }
+}
+
+/// A directive of three arguments.
 fn of_three(
     alloc: Global,
-    kind: Option<Directive>,
+    name: &str,
     a: &TermRef<'_>,
     b: &TermRef<'_>,
     c: &TermRef<'_>,
 ) -> Result<Option<Meaning>, AllocError>
-    ensures { IfOk result (λ o. option_map shown o ≡ of_three kind a.now b.now c.now) }
+    ensures { IfOk result (λ o. option_map shown o ≡ of_three name.now a.now b.now c.now) }
 {
-    let Some(kind) = kind else {
-        return Ok(None);
-    };
-    match kind {
-        Directive::Operator => {
-            let names = names_of(alloc, c)?;
-            Ok(Some(operator_of(number_to(1200, a), kind_in(name_of(b)), names)))
-        }
-        Directive::Run
-        | Directive::Declare
-        | Directive::Spread
-        | Directive::Flag
-        | Directive::Import
-        | Directive::Refused => Ok(Some(bad())),
+    if name == "op" {
+        let names = names_of(alloc, c)?;
+        return Ok(Some(operator_of(number_to(1200, a), kind_in(name_of(b)), names)));
     }
-}
-
-/// A bad directive.
-fn bad() -> Meaning
-    ensures { shown result ≡ bad }
-{
-    Meaning::Refused(RefusalKind::BadDirective)
+    Ok(None)
 }
 
 /// No effect, or a bad directive.
 fn passes_if(good: bool) -> Meaning
     ensures { shown result ≡ passes_if good }
 {
-    if good { Meaning::Passes } else { bad() }
+    if good {
+        Meaning::Passes
+    } else {
+        Meaning::Refused(RefusalKind::BadDirective)
+    }
 }
 
 /// dynamic/1: its procedures are no control constructs or built-in predicates.
@@ -167,10 +165,10 @@ fn dynamic_of(alloc: Global, names: &NameTable, term: &TermRef<'_>) -> Result<Me
     ensures { IfOk result (λ m. shown m ≡ dynamic_meaning (indicators term.now)) }
 {
     match indicators_of(alloc, term)? {
-        None => Ok(bad()),
+        None => Ok(Meaning::Refused(RefusalKind::BadDirective)),
         Some(indicators) => {
             if any_fixed(names, &indicators) {
-                Ok(bad())
+                Ok(Meaning::Refused(RefusalKind::BadDirective))
             } else {
                 Ok(Meaning::Declares(indicators))
             }
@@ -197,11 +195,11 @@ fn flag_of(flag: Option<&Name>, value: Option<&Name>) -> Meaning
     ensures { shown result ≡ flag_meaning (option_copied flag.entry) (option_copied value.entry) }
 {
     let Some(flag) = flag else {
-        return bad();
+        return Meaning::Refused(RefusalKind::BadDirective);
     };
     match flag_named(flag.as_str(), value) {
         Ok(flag) => Meaning::Sets(flag),
-        Err(_) => bad(),
+        Err(_) => Meaning::Refused(RefusalKind::BadDirective),
     }
 }
 
@@ -253,6 +251,6 @@ fn operator_of(priority: Option<u16>, kind: Option<Kind>, names: Option<Vec<Name
 {
     match (priority, kind, names) {
         (Some(priority), Some(kind), Some(names)) => Meaning::Operates(priority, kind, names),
-        _ => bad(),
+        _ => Meaning::Refused(RefusalKind::BadDirective),
     }
 }

@@ -1,29 +1,41 @@
--- The rows as the entries of a map by name and arity, and names as those of a set.
-use Rattle.std.specs.Prelude.{◌==◌, ◌&&◌, ℕ, List, [], ◌∷◌, ◌++◌, if◌then◌else◌}
+-- The rows and the kept names as the entries of a map by name and arity.
+use Rattle.std.specs.Prelude.{◌==◌, ◌&&◌, ℕ, List, [], ◌∷◌, Option, Some, None, if◌then◌else◌}
 use Rattle.std.specs.Borrow.{Bor}
-use Rattle.std.specs.List.{list_any}
 use Rattle.std.specs.Str.{bytes_eq}
 use Rattle.plterm.specs.declared.indicator.Indicator.{Indicator}
-use Rattle.plnames.specs.Names.{RowOf, is_named}
+use Rattle.plnames.specs.declared.kind.Kind.{Kind}
+use Rattle.plnames.specs.Names.{Row}
 
-module _ {K : Type 0} where
-  -- a row of the code's table
-  abbrev pub row_of : Bor (List ℕ) × ℕ × K → RowOf K
-  row_of r = record { name = r.0.now; arity = r.1; kind = r.2 }
+-- a name, an arity, and what they are; nothing, where they are kept
+pub record Noted : Type 0 where
+  pub name : List ℕ
+  pub arity : ℕ
+  pub kind : Option Kind
 
-  -- an entry of a map, as a row
-  abbrev pub entry_row : (Bor (List ℕ) × ℕ) × K → RowOf K
-  entry_row e = record { name = e.0.0.now; arity = e.0.1; kind = e.1 }
+abbrev pub whole_row : Row → Noted
+whole_row r = record { name = r.name; arity = r.arity; kind = Some r.kind }
 
-  -- rows with one more, in place of one of its name and arity
-  abbrev pub put : List (RowOf K) → RowOf K → List (RowOf K)
-  put [] r = r ∷ []
-  put (s ∷ ss) r = if bytes_eq r.name s.name && (r.arity == s.arity) then record s { kind = r.kind } ∷ ss else s ∷ put ss r
+abbrev pub kept_row : Indicator → Noted
+kept_row p = record { name = p.name; arity = p.arity; kind = None }
 
--- a name and an arity of the code's table
-abbrev pub name_row : Bor (List ℕ) × ℕ → Indicator
-name_row n = record { name = n.0.now; arity = n.1 }
+-- a row of the code's table
+abbrev pub row_of : Bor (List ℕ) × ℕ × Kind → Noted
+row_of r = record { name = r.0.now; arity = r.1; kind = Some r.2 }
 
--- names with one more, if it is not there
-abbrev pub put_name : List Indicator → Indicator → List Indicator
-put_name ps p = if list_any (λ q. is_named p q.name q.arity) ps then ps else ps ++ p ∷ []
+-- a name that is kept
+abbrev pub name_row : Bor (List ℕ) × ℕ → Noted
+name_row n = record { name = n.0.now; arity = n.1; kind = None }
+
+-- an entry of a map
+abbrev pub entry_row : (Bor (List ℕ) × ℕ) × Option Kind → Noted
+entry_row e = record { name = e.0.0.now; arity = e.0.1; kind = e.1 }
+
+-- one more, in place of one of its name and arity
+abbrev pub put : List Noted → Noted → List Noted
+put [] r = r ∷ []
+put (s ∷ ss) r = if bytes_eq r.name s.name && (r.arity == s.arity) then record s { kind = r.kind } ∷ ss else s ∷ put ss r
+
+-- what was noted first of a name and arity
+abbrev pub noted_in : List Noted → List ℕ → ℕ → Option (Option Kind)
+noted_in [] name arity = None
+noted_in (s ∷ ss) name arity = if bytes_eq name s.name && (arity == s.arity) then Some s.kind else noted_in ss name arity

@@ -4,41 +4,29 @@ use Rattle.std.specs.List.{list_any}
 use Rattle.std.specs.Str.{bytes_eq}
 use Rattle.plterm.specs.declared.indicator.Indicator.{Indicator}
 use Rattle.plnames.specs.declared.kind.Kind.{Kind}
-use Rattle.plnames.specs.declared.kind.Directive.{Directive}
-use Rattle.plnames.specs.declared.rows.TheConstants.{ROWS, KEPT, DIRECTIVES}
+use Rattle.plnames.specs.declared.rows.TheConstants.{ROWS, KEPT}
 
 abbrev pub is_named : Indicator → List ℕ → ℕ → Bool
 is_named p name arity = bytes_eq p.name name && (p.arity == arity)
 
 -- a name, an arity, and what they are
-pub record RowOf (K : Type 0) : Type 0 where
+pub record Row : Type 0 where
   pub name : List ℕ
   pub arity : ℕ
-  pub kind : K
-
-abbrev pub Row : Type 0
-Row = RowOf Kind
+  pub kind : Kind
 
 -- the rows of the table
 unfoldable pub rows : List Row
 rows = map (λ row. record { name = row.0.now; arity = row.1; kind = row.2 }) ROWS.now
 
 -- the kind of the first row of that name and arity, if there is one
-abbrev pub kind_in : {K : Type 0} → List (RowOf K) → List ℕ → ℕ → Option K
+abbrev pub kind_in : List Row → List ℕ → ℕ → Option Kind
 kind_in [] name arity = None
 kind_in (row ∷ rest) name arity = if bytes_eq name row.name && (arity == row.arity) then Some row.kind else kind_in rest name arity
 
 -- what a name with an arity is: a control construct or a built-in predicate, if it is one
 abbrev pub kind_of : List ℕ → ℕ → Option Kind
 kind_of name arity = kind_in rows name arity
-
--- the rows of the directives
-unfoldable pub directives : List (RowOf Directive)
-directives = map (λ row. record { name = row.0.now; arity = row.1; kind = row.2 }) DIRECTIVES.now
-
--- what a name with so many arguments is as a directive, if it is one
-abbrev pub directive_of : List ℕ → ℕ → Option Directive
-directive_of name arity = kind_in directives name arity
 
 -- the names with arities that are kept for what has no row yet
 unfoldable pub kept : List Indicator

@@ -1,4 +1,4 @@
-//! Control constructs, built-in predicates and directives.
+//! Control constructs and built-in predicates.
 
 /// Where a clause is added to its procedure (ISO/IEC 13211-1 8.9.1, 8.9.2).
 #[derive(Clone, Copy, PartialEq, Eq)]
@@ -248,23 +248,4 @@ pub enum BuiltIn {
 pub enum Kind {
     Control(Control),
     BuiltIn(BuiltIn),
-}
-
-/// A directive (7.4.2).
-#[derive(Clone, Copy, PartialEq, Eq)]
-pub enum Directive {
-    /// initialization/1: a goal of main.
-    Run,
-    /// dynamic/1.
-    Declare,
-    /// discontiguous/1 and multifile/1: clauses of each procedure may stand anywhere.
-    Spread,
-    /// op/3.
-    Operator,
-    /// set_prolog_flag/2.
-    Flag,
-    /// use_module/1 and use_module/2, of a library.
-    Import,
-    /// What no text may say.
-    Refused,
 }

@@ -1,6 +1,6 @@
 //! What a name with an arity is: a control construct, a built-in predicate, or neither.
 //!
-//! `rows::ROWS` is the one table of them, and `rows::DIRECTIVES` that of directives. A further built-in predicate is one more row there, and one more variant in `kind`.
+//! `rows::ROWS` is the one table of them. A further built-in predicate is one more row there, and one more variant in `kind`.
 #![tactic(auto)]
 
 pub mod kind;

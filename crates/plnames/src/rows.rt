@@ -1,8 +1,8 @@
 //! The table of names.
 
 use crate::kind::{
-    Arithmetic, Atoms, BuiltIn, Comparison, Control, Directive, Flags, Kind, Order, Output, Parts,
-    Relation, Side, Sorting, Spelling, Terms, Tests,
+    Arithmetic, Atoms, BuiltIn, Comparison, Control, Flags, Kind, Order, Output, Parts, Relation,
+    Side, Sorting, Spelling, Terms, Tests,
 };
 
 /// What each name with an arity is. No program can change or define these procedures (ISO/IEC 13211-1 7.5.2).
@@ -260,25 +260,4 @@ pub static KEPT: &[(&str, u16)] = &[
     ("mutex_lock", 1),
     ("mutex_unlock", 1),
     ("mutex_trylock", 1),
-];
-
-/// What each directive is, by its name and how many arguments it has. A name without arguments is none, wherever directives have it.
-pub static DIRECTIVES: &[(&str, u16, Directive)] = &[
-    ("initialization", 1, Directive::Run),
-    ("dynamic", 1, Directive::Declare),
-    ("discontiguous", 1, Directive::Spread),
-    ("multifile", 1, Directive::Spread),
-    ("op", 3, Directive::Operator),
-    ("set_prolog_flag", 2, Directive::Flag),
-    ("use_module", 1, Directive::Import),
-    ("use_module", 2, Directive::Import),
-    ("thread_local", 1, Directive::Refused),
-    ("module", 2, Directive::Refused),
-    ("initialization", 0, Directive::Refused),
-    ("dynamic", 0, Directive::Refused),
-    ("discontiguous", 0, Directive::Refused),
-    ("multifile", 0, Directive::Refused),
-    ("op", 0, Directive::Refused),
-    ("set_prolog_flag", 0, Directive::Refused),
-    ("use_module", 0, Directive::Refused),
 ];

@@ -1,50 +1,44 @@
 //! The table of names, by hash.
-ghost use Rattle.std.specs.Prelude.{◌≡◌, [], IfOk, fold, map};
-ghost use Rattle.plnames.specs.Names.{directive_of, directives as directive_rows, kept as kept_names, kind_of, is_fixed, rows};
-ghost use Rattle.plnames.specs.Entries.{row_of, entry_row, name_row, put, put_name};
+ghost use Rattle.std.specs.Prelude.{◌≡◌, ◌++◌, [], IfOk, fold, map};
+ghost use Rattle.plnames.specs.Names.{kept as kept_names, kind_of, is_fixed, rows};
+ghost use Rattle.plnames.specs.Entries.{entry_row, kept_row, name_row, noted_in, put, row_of, whole_row};
 
-use crate::kind::{Directive, Kind};
-use crate::rows::{DIRECTIVES, KEPT, ROWS};
-use indexmap::{IndexMap, IndexSet};
+use crate::kind::Kind;
+use crate::rows::{KEPT, ROWS};
+use indexmap::IndexMap;
 use plterm::indicator::Indicator;
 use std::alloc::{AllocError, Global};
 
-/// The rows of the table by name and arity. It is made once, and a look-up takes constant time.
+/// The kinds of names with arities; of one that is kept, none.
+type Kinds = IndexMap<(&'static str, u16), Option<Kind>>;
+
+/// The rows of the table by name and arity, and the names that are kept. It is made once, and a look-up takes constant time.
 #[derive(Drop)]
 pub struct NameTable {
-    kinds: IndexMap<(&'static str, u16), Kind>,
-    kept: IndexSet<(&'static str, u16)>,
-    directives: IndexMap<(&'static str, u16), Directive>,
-    ghost whole: { map entry_row kinds.entries ≡ rows },
-    ghost all_kept: { map name_row kept.keys ≡ kept_names },
-    ghost all_directives: { map entry_row directives.entries ≡ directive_rows },
+    kinds: Kinds,
+    ghost whole: { map entry_row kinds.entries ≡ map whole_row rows ++ map kept_row kept_names },
 }
 
 impl NameTable {
     /// The table of all rows.
     pub fn new(alloc: Global) -> Result<NameTable, AllocError> {
-        let kinds = by_name(alloc, ROWS)?;
-        let kept = of_names(alloc, KEPT)?;
-        let directives = by_name(alloc, DIRECTIVES)?;
-        Ok(NameTable {
-            kinds,
-            kept,
-            directives,
-        })
+        let kinds = with_rows(IndexMap::new(alloc), ROWS)?;
+        let kinds = with_kept(kinds, KEPT)?;
+        Ok(NameTable { kinds })
+    }
+
+    /// What stands in the table at a name with an arity.
+    fn noted(&self, name: &str, arity: u16) -> Option<Option<Kind>>
+        ensures { result ≡ noted_in (map whole_row rows ++ map kept_row kept_names) name.now arity }
+    {
+        self.kinds.get(&(name, arity)).copied()
     }
 
     /// What a name with an arity is: a control construct or a built-in predicate, if it is one.
     pub fn kind_of(&self, name: &str, arity: u16) -> Option<Kind>
         ensures { result ≡ kind_of name.now arity }
     {
-        self.kinds.get(&(name, arity)).copied()
-    }
-
-    /// What a name with so many arguments is as a directive, if it is one.
-    pub fn directive_of(&self, name: &str, arity: u16) -> Option<Directive>
-        ensures { result ≡ directive_of name.now arity }
-    {
-        self.directives.get(&(name, arity)).copied()
+        self.noted(name, arity)?
     }
 
     /// Whether the procedure is a control construct or a built-in predicate, or its name is kept for one: it is static whatever the program
@@ -52,36 +46,27 @@ impl NameTable {
     pub fn is_fixed(&self, indicator: &Indicator) -> bool
         ensures { result ≡ is_fixed indicator.now }
     {
-        let name = indicator.name.as_str();
-        self.kind_of(name, indicator.arity).is_some()
-            || self.kept.contains(&(name, indicator.arity))
+        self.noted(indicator.name.as_str(), indicator.arity)
+            .is_some()
     }
 }
 
-/// What rows say, by name and arity.
-fn by_name<K: Copy>(
-    alloc: Global,
-    rows: &[(&'static str, u16, K)],
-) -> Result<IndexMap<(&'static str, u16), K>, AllocError>
-    ensures { IfOk result (λ kinds. map entry_row kinds.entries ≡ fold put [] (map row_of rows.now)) }
+/// The kinds with those of rows, by name and arity.
+fn with_rows(mut kinds: Kinds, rows: &[(&'static str, u16, Kind)]) -> Result<Kinds, AllocError>
+    ensures { IfOk result (λ made. map entry_row made.entries ≡ fold put (map entry_row kinds.entry.entries) (map row_of rows.now)) }
 {
-    let mut kinds = IndexMap::new(alloc);
     for &(name, arity, kind) in rows {
-        kinds.insert((name, arity), kind)?;
+        kinds.insert((name, arity), Some(kind))?;
     }
     Ok(kinds)
 }
 
-/// The procedures of these names and arities.
-fn of_names(
-    alloc: Global,
-    names: &[(&'static str, u16)],
-) -> Result<IndexSet<(&'static str, u16)>, AllocError>
-    ensures { IfOk result (λ set. map name_row set.keys ≡ fold put_name [] (map name_row names.now)) }
+/// The kinds with names and arities that are kept.
+fn with_kept(mut kinds: Kinds, names: &[(&'static str, u16)]) -> Result<Kinds, AllocError>
+    ensures { IfOk result (λ made. map entry_row made.entries ≡ fold put (map entry_row kinds.entry.entries) (map name_row names.now)) }
 {
-    let mut set = IndexSet::new(alloc);
     for &(name, arity) in names {
-        set.insert((name, arity))?;
+        kinds.insert((name, arity), None)?;
     }
-    Ok(set)
+    Ok(kinds)
 }

@@ -1,75 +1,56 @@
 //! What a name with an arity is (plnames).
 use crate::terms::indicator;
-use plnames::kind::Directive;
 use plnames::table::NameTable;
 use std::alloc::{AllocError, Global};
 use std::test::Fail;
 
-/// Names with their arities, whether they are fixed, and what they are as directives.
-type Row = (&'static str, u16, bool, Option<Directive>);
+/// Names with their arities, and whether they are fixed.
+type Row = (&'static str, u16, bool);
 
-const ROWS: [&[Row]; 7] = [
+const FIXED: [&[Row]; 5] = [
     &[
-        ("true", 0, true, None),
-        (",", 2, true, None),
-        ("->", 2, true, None),
-        ("!", 0, true, None),
-        ("once", 1, true, None),
-        ("\\+", 1, true, None),
-        ("catch", 3, true, None),
+        ("true", 0, true),
+        (",", 2, true),
+        ("->", 2, true),
+        ("!", 0, true),
+        ("once", 1, true),
+        ("\\+", 1, true),
+        ("catch", 3, true),
     ],
     &[
-        ("throw", 1, true, None),
-        ("call", 0, false, None),
-        ("call", 1, true, None),
-        ("call", 8, true, None),
-        ("call", 9, false, None),
-        ("=", 2, true, None),
-        ("write", 1, true, None),
+        ("throw", 1, true),
+        ("call", 0, false),
+        ("call", 1, true),
+        ("call", 8, true),
+        ("call", 9, false),
+        ("=", 2, true),
+        ("write", 1, true),
     ],
     &[
-        ("nl", 0, true, None),
-        ("assertz", 1, true, None),
-        ("assertz", 2, false, None),
-        ("asserta", 1, true, None),
-        ("asserta", 2, false, None),
-        ("retract", 1, true, None),
-        ("clause", 2, true, None),
+        ("nl", 0, true),
+        ("assertz", 1, true),
+        ("assertz", 2, false),
+        ("asserta", 1, true),
+        ("asserta", 2, false),
+        ("retract", 1, true),
+        ("clause", 2, true),
     ],
     &[
-        ("clause", 3, false, None),
-        ("transaction", 1, true, None),
-        ("transaction", 3, false, None),
-        ("transaction_updates", 1, false, None),
-        ("thread_create", 3, true, None),
-        ("thread_create", 4, false, None),
-        ("mutex_trylock", 1, true, None),
+        ("clause", 3, false),
+        ("transaction", 1, true),
+        ("transaction", 3, false),
+        ("transaction_updates", 1, false),
+        ("thread_create", 3, true),
+        ("thread_create", 4, false),
+        ("mutex_trylock", 1, true),
     ],
     &[
-        ("erase", 1, false, None),
-        ("bagof", 3, false, None),
-        ("setof", 3, false, None),
-        ("phrase", 2, false, None),
-        ("phrase", 3, false, None),
-        ("p", 0, false, None),
-    ],
-    &[
-        ("dynamic", 1, true, Some(Directive::Declare)),
-        ("initialization", 1, false, Some(Directive::Run)),
-        ("discontiguous", 1, false, Some(Directive::Spread)),
-        ("multifile", 1, false, Some(Directive::Spread)),
-        ("op", 3, true, Some(Directive::Operator)),
-        ("set_prolog_flag", 2, true, Some(Directive::Flag)),
-    ],
-    &[
-        ("use_module", 1, false, Some(Directive::Import)),
-        ("use_module", 2, false, Some(Directive::Import)),
-        ("use_module", 3, false, None),
-        ("module", 2, false, Some(Directive::Refused)),
-        ("module", 0, false, None),
-        ("thread_local", 1, false, Some(Directive::Refused)),
-        ("op", 0, false, Some(Directive::Refused)),
-        ("dynamic", 2, false, None),
+        ("erase", 1, false),
+        ("bagof", 3, false),
+        ("setof", 3, false),
+        ("phrase", 2, false),
+        ("phrase", 3, false),
+        ("p", 0, false),
     ],
 ];
 
@@ -80,9 +61,9 @@ fn first_wrong(
     rows: &[Row],
 ) -> Result<Option<&'static str>, AllocError> {
     for row in rows.iter() {
-        let (name, arity, is, directive) = *row;
+        let (name, arity, is) = *row;
         let procedure = indicator(alloc, name, arity)?;
-        if names.is_fixed(&procedure) != is || names.directive_of(name, arity) != directive {
+        if names.is_fixed(&procedure) != is {
             return Ok(Some(name));
         }
     }
@@ -95,10 +76,10 @@ fn first_wrong_of_new(alloc: Global, rows: &[Row]) -> Result<Option<&'static str
     first_wrong(alloc, &names, rows)
 }
 
-// Control constructs and built-in predicates are fixed, and some names are directives.
+// Control constructs and built-in predicates are fixed.
 #[test]
-fn fixed_procedures_and_directives(rt: HostRuntime) -> Result<(), Fail> {
-    for rows in ROWS {
+fn fixed_procedures(rt: HostRuntime) -> Result<(), Fail> {
+    for rows in FIXED {
         assert_eq!(rt; first_wrong_of_new(rt.alloc(), rows)?, None);
     }
     Ok(())

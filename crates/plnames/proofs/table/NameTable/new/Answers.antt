@@ -1,12 +1,13 @@
-use Rattle.std.proofs.Common.{◌∙◌}
-use Rattle.plnames.specs.Names.{directives, kept, rows}
-use Rattle.plnames.proofs.Entries.{directives_are_put, kept_are_put, rows_are_put}
+use Rattle.std.proofs.Common.{◌∙◌, [], ap, fold, map}
+use Rattle.plnames.specs.Names.{kept, rows}
+use Rattle.plnames.specs.Entries.{entry_row, kept_row, put, whole_row}
+use Rattle.plnames.proofs.Entries.{all_put}
 use Rattle.plnames.proofs.table.NameTable.new.Goals as goal
 
 pub invariant_of-result : goal.invariant_of-result
-unfolding rows kept directives
+unfolding rows kept
 invariant_of-result c = record {
-  whole = c.in_ok-kinds.ensures ∙ rows_are_put;
-  all_kept = c.in_ok-kept.ensures ∙ kept_are_put;
-  all_directives = c.in_ok-directives.ensures ∙ directives_are_put;
+  whole = c.in_ok-kinds-2.ensures
+      ∙ ap (λ es. fold put es (map kept_row kept)) (c.in_ok-kinds.ensures ∙ ap (λ es. fold put (map entry_row es) (map whole_row rows)) c.new.ensures.empty)
+      ∙ all_put;
 }
