@@ -8,7 +8,7 @@ use Rattle.indexmap.specs.IndexMap.{insert_entry}
 use Rattle.plterm.specs.declared.indicator.Indicator.{Indicator}
 use Rattle.plnames.specs.declared.kind.Kind.{Kind}
 use Rattle.plnames.specs.Names.{Row, kept, rows, kind_in, is_among}
-use Rattle.plnames.specs.Entries.{Noted, entry_row, kept_row, name_row, noted_in, put, row_of, whole_row}
+use Rattle.plnames.specs.Entries.{Noted, entry_row, kept_row, name_row, noted_in, put, noted_row, whole_row}
 
 abbrev pub Key : Type 0
 Key = Bor (List ℕ) × ℕ

@@ -19,8 +19,11 @@ abbrev pub kept_row : Indicator → Noted
 kept_row p = record { name = p.name; arity = p.arity; kind = None }
 
 -- a row of the code's table
-abbrev pub row_of : Bor (List ℕ) × ℕ × Kind → Noted
-row_of r = record { name = r.0.now; arity = r.1; kind = Some r.2 }
+abbrev pub row_of : Bor (List ℕ) × ℕ × Kind → Row
+row_of r = record { name = r.0.now; arity = r.1; kind = r.2 }
+
+abbrev pub noted_row : Bor (List ℕ) × ℕ × Kind → Noted
+noted_row r = record { name = r.0.now; arity = r.1; kind = Some r.2 }
 
 -- a name that is kept
 abbrev pub name_row : Bor (List ℕ) × ℕ → Noted

@@ -1,7 +1,7 @@
 //! The table of names, by hash.
 ghost use Rattle.std.specs.Prelude.{◌≡◌, ◌++◌, [], IfOk, fold, map};
 ghost use Rattle.plnames.specs.Names.{kept as kept_names, kind_of, is_fixed, rows};
-ghost use Rattle.plnames.specs.Entries.{entry_row, kept_row, name_row, noted_in, put, row_of, whole_row};
+ghost use Rattle.plnames.specs.Entries.{entry_row, kept_row, name_row, noted_in, put, noted_row, whole_row};
 
 use crate::kind::Kind;
 use crate::rows::{KEPT, ROWS};
@@ -53,7 +53,7 @@ impl NameTable {
 
 /// The kinds with those of rows, by name and arity.
 fn with_rows(mut kinds: Kinds, rows: &[(&'static str, u16, Kind)]) -> Result<Kinds, AllocError>
-    ensures { IfOk result (λ made. map entry_row made.entries ≡ fold put (map entry_row kinds.entry.entries) (map row_of rows.now)) }
+    ensures { IfOk result (λ made. map entry_row made.entries ≡ fold put (map entry_row kinds.entry.entries) (map noted_row rows.now)) }
 {
     for &(name, arity, kind) in rows {
         kinds.insert((name, arity), Some(kind))?;
