@@ -1,4 +1,5 @@
 pub mod Trees
+pub mod Values
 pub mod Clashes
 pub mod Slots
 pub mod Listing

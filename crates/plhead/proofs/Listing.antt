@@ -6,16 +6,10 @@ use Rattle.plsubst.proofs.Unify.{more-head, more-tail}
 use Rattle.plcells.specs.declared.cell.Cell.{Cell}
 use Rattle.plcells.specs.Store.{Store, term, terms, value, spread, AreValues, IsValue}
 use Rattle.plcells.specs.Walking.{weight, weights}
-use Rattle.plcells.proofs.Searching.{weight-some}
 use Rattle.plcode.specs.declared.node.Node.{Node}
 use Rattle.plcode.specs.Packed.{node_at, IsArgument}
 use Rattle.plenv.specs.Env.{Env, Covers, over}
-use Rattle.plhead.specs.Equations.{Terms, Solves, AreEquations, pairs, Pushes}
-
--- how many nodes the terms of the left sides have
-abbrev pub weigh : Terms → List (ℕ × Cell) → ℕ
-weigh w [] = 0
-weigh w (p ∷ ps) = weight (w p.0) + weigh w ps
+use Rattle.plhead.specs.Equations.{Terms, Solves, AreEquations, pairs, weigh, Pushes}
 
 module _ (τ : ℕ → Tree) (e : Env) (base : ℕ) (w : Terms) where
   pub solves-left : (ps qs : List (ℕ × Cell)) → Solves τ e base w (ps ++ qs) → Solves τ e base w ps
@@ -29,6 +23,12 @@ module _ (τ : ℕ → Tree) (e : Env) (base : ℕ) (w : Terms) where
   pub solves-both : (ps qs : List (ℕ × Cell)) → Solves τ e base w ps → Solves τ e base w qs → Solves τ e base w (ps ++ qs)
   solves-both [] qs s r = r
   solves-both (p ∷ ps) qs s r = (s.0, solves-both ps qs s.1 r)
+
+  -- the last ones put before those in front of them
+  pub solves-swap : (ps qs rs : List (ℕ × Cell)) → Solves τ e base w ((ps ++ qs) ++ rs) → Solves τ e base w ((ps ++ rs) ++ qs)
+  solves-swap ps qs rs s =
+      let front = solves-left (ps ++ qs) rs s in
+      solves-both (ps ++ rs) qs (solves-both ps rs (solves-left ps qs front) (solves-right (ps ++ qs) rs s)) (solves-right ps qs front)
 
   -- the equations of two rows
   pub pairs-solved : (vs : List Cell) (at : ℕ) → bind_all τ (trees (map (bind (over e base)) (spread w at (length vs)))) ≡ bind_all τ (trees (map (value e.heap) vs)) → Solves τ e base w (pairs at vs)
@@ -55,6 +55,11 @@ module _ (e : Env) (base : ℕ) (nodes : List Node) (w : Terms) where
   equations-both [] qs s r = r
   equations-both (p ∷ ps) qs s r = (s.0, equations-both ps qs s.1 r)
 
+  pub equations-swap : (ps qs rs : List (ℕ × Cell)) → AreEquations e base nodes w ((ps ++ qs) ++ rs) → AreEquations e base nodes w ((ps ++ rs) ++ qs)
+  equations-swap ps qs rs s =
+      let front = equations-left (ps ++ qs) rs s in
+      equations-both (ps ++ rs) qs (equations-both ps rs (equations-left ps qs front) (equations-right (ps ++ qs) rs s)) (equations-right ps qs front)
+
   pub pairs-equations : (vs : List Cell) (at : ℕ) → AreValues e.heap vs → ((j : ℕ) → at ≤ j → j < at + length vs → (j < length nodes) × IsArgument 0 j (node_at nodes j) × Covers e base (w j)) → AreEquations e base nodes w (pairs at vs)
   pairs-equations [] at f each = tt
   pairs-equations (v ∷ vs) at f each =
@@ -68,19 +73,15 @@ module _ (w : Terms) where
   weigh-append [] qs = omega arith
   weigh-append (p ∷ ps) qs = omega (arith, weigh-append ps qs)
 
-  weigh-pairs : (vs : List Cell) (at : ℕ) → weigh w (pairs at vs) ≡ weights (trees (spread w at (length vs)))
+  pub weigh-pairs : (vs : List Cell) (at : ℕ) → weigh w (pairs at vs) ≡ weights (trees (spread w at (length vs)))
   unfolding weight
   weigh-pairs [] at = refl
   weigh-pairs (v ∷ vs) at = omega (arith, weigh-append (pairs (suc at) vs) ((at, v) ∷ []), weigh-pairs vs (suc at))
 
-  -- an equation was taken off
-  pub taken-lighter : (work rest : List (ℕ × Cell)) (at : ℕ) (v : Cell) → work ≡ rest ++ (at, v) ∷ [] → weigh w rest < weigh w work
-  taken-lighter work rest at v e = omega (arith, ap (weigh w) e, weigh-append rest ((at, v) ∷ []), weight-some (w at))
-
-  -- and the arguments put in its place
-  pub split-lighter : (work rest now : List (ℕ × Cell)) (at i : ℕ) (v : Cell) (vs : List Cell) → work ≡ rest ++ (at, v) ∷ [] → now ≡ rest ++ pairs i vs → weight (w at) ≡ suc (weights (trees (spread w i (length vs)))) → weigh w now < weigh w work
-  split-lighter work rest now at i v vs e f heavier =
-      omega (arith, ap (weigh w) e, ap (weigh w) f, weigh-append rest ((at, v) ∷ []), weigh-append rest (pairs i vs), weigh-pairs vs i, heavier)
+  -- the last one gave way to lighter ones
+  pub reduced-lighter : (work rest now added : List (ℕ × Cell)) (p : ℕ × Cell) → work ≡ rest ++ p ∷ [] → now ≡ rest ++ added → weigh w added < weight (w p.0) → weigh w now < weigh w work
+  reduced-lighter work rest now added p e f lighter =
+      omega (arith, ap (weigh w) e, ap (weigh w) f, weigh-append rest (p ∷ []), weigh-append rest added, lighter)
 
 -- ---- putting equations on the list
 

@@ -1,5 +1,5 @@
 -- Rows of equations: the arguments of two compounds, and those of a head.
-use Rattle.std.proofs.Common.{◌≡◌, ℕ, zero, suc, ◌+◌, ◌<◌, ◌≤◌, List, [], ◌∷◌, ◌++◌, length, map, refl, sym, ap, ◌∙◌, subst, arith, inl, inr, Bool, true, false, Result, Ok, Err, IfOk}
+use Rattle.std.proofs.Common.{◌≡◌, ℕ, zero, suc, ◌+◌, ◌<◌, ◌≤◌, List, [], ◌∷◌, length, map, refl, sym, ap, ◌∙◌, subst, arith, inl, inr, Bool, true, false, Result, Ok, Err, IfOk}
 use Rattle.std.proofs.lemmas.Bool.{cases_eq}
 use Rattle.std.proofs.lemmas.List.{length-map}
 use Rattle.plterm.specs.Tree.{Tree, compound, more, trees}
@@ -15,11 +15,12 @@ use Rattle.plcode.specs.Packed.{node_at, IsArgument}
 use Rattle.plenv.specs.Env.{Env, over}
 use Rattle.plenv.specs.Changes.{Unifies}
 use Rattle.plenv.specs.Rows.{AllBelowEach, CoversAll}
-use Rattle.plhead.specs.Equations.{Terms, Solves, left, right, IsEquation, AreEquations, pairs, Pushes}
+use Rattle.plhead.specs.Equations.{Terms, Solves, left, right, weigh, IsEquation, AreEquations, pairs, Pushes}
 use Rattle.plhead.specs.Fitting.{Answers, HasArgs, NotUnifiable, Stands, UnifiesAll}
+use Rattle.plhead.specs.Progress.{Reduces}
 use Rattle.plhead.proofs.Trees.{length-spread}
-use Rattle.plhead.proofs.Listing.{solves-left, solves-right, solves-both, pairs-solved, solved-pairs, equations-both, pairs-equations, split-lighter, weigh}
-use Rattle.plhead.proofs.Solving.{apart, join, unifier-general, unifier-younger, Progress}
+use Rattle.plhead.proofs.Listing.{pairs-solved, solved-pairs, pairs-equations, weigh-pairs}
+use Rattle.plhead.proofs.Solving.{started, unifier-general, unifier-younger}
 
 bind_all-trees : (σ : ℕ → Tree) (ts : List Tree) → bind_all σ (trees ts) ≡ trees (map (bind σ) ts)
 unfolding bind
@@ -63,34 +64,29 @@ module _ (e : Env) (base : ℕ) (w : Terms) (nodes : List Node) (i c k at : ℕ)
   args-back : (τ : ℕ → Tree) → Solves τ e base w (pairs i pushed.values) → bind τ (left e base w (at, v)) ≡ bind τ (right e (at, v))
   args-back τ s = left_bound τ ∙ ap (compound args.name) (solved-pairs τ e base w pushed.values i s) ∙ sym (right_bound τ)
 
-  pub split-equations : IsEquation e base nodes w (at, v) → AreEquations e base nodes w rest → AreEquations e base nodes w now
-  split-equations top all =
+  args-stand : Stands e base w (pairs i pushed.values) (left e base w (at, v)) (right e (at, v))
+  args-stand = record { to = args-to; back = args-back }
+
+  args-equations : IsEquation e base nodes w (at, v) → AreEquations e base nodes w (pairs i pushed.values)
+  args-equations top =
       let below : EachBelow top.covers.width (trees (spread w i (length pushed.values))) = subst (AllBelow top.covers.width) left_row top.covers.below in
-      subst (AreEquations e base nodes w) (sym pushed.items)
-      (equations-both e base nodes w rest (pairs i pushed.values) all
-      (pairs-equations e base nodes w pushed.values i pushed.fit (λ j low lt. (
+      pairs-equations e base nodes w pushed.values i pushed.fit (λ j low lt. (
         omega (arith, args.nodes_within, count, lt),
         args.whole j low (omega (arith, lt, count)),
         record { width = top.covers.width; below = below-row top.covers.width w (length pushed.values) i j below low lt; within = top.covers.within },
-      ))))
+      ))
 
-  pub split-weight : (work : List (ℕ × Cell)) → work ≡ rest ++ (at, v) ∷ [] → weigh w now < weigh w work
+  args-lighter : weigh w (pairs i pushed.values) < weight (w at)
   unfolding weight
-  split-weight work taken = split-lighter w work rest now at i v pushed.values taken pushed.items (ap weight left_row)
+  args-lighter = omega (arith, weigh-pairs w pushed.values i, ap weight left_row)
 
-  pub split-on : (old : Env) (s t : Tree) (work : List (ℕ × Cell)) → work ≡ rest ++ (at, v) ∷ [] → AreEquations e base nodes w rest → Progress old e base w s t work → Progress old e base w s t now
-  split-on old s t work taken all come = record {
-    put_for = come.put_for;
-    made = come.made;
-    forced = come.forced;
-    left = λ τ q.
-        let a = apart old e e base w nodes s t work rest (at, v) taken all come τ (come.left τ q) in
-        subst (Solves τ e base w) (sym pushed.items) (solves-both τ e base w rest (pairs i pushed.values) a.0 (args-to τ a.1));
-    enough = λ τ u.
-        let both = subst (Solves τ e base w) pushed.items u in
-        let top = args-back τ (solves-right τ e base w rest (pairs i pushed.values) both) in
-        come.enough τ (join old e e base w nodes s t work rest (at, v) taken all come τ (solves-left τ e base w rest (pairs i pushed.values) both) top);
-    younger = come.younger;
+  pub split : IsEquation e base nodes w (at, v) → Reduces e e base nodes w (at, v) rest now
+  split top = record {
+    added = pairs i pushed.values;
+    items = pushed.items;
+    equations = args-equations top;
+    progress = started e base w (left e base w (at, v)) (right e (at, v)) (pairs i pushed.values) args-stand;
+    lighter = args-lighter;
   }
 
 -- the unifier of rows under one name is that under any

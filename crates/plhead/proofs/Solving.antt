@@ -1,5 +1,5 @@
 -- How the solution of equations comes on.
-use Rattle.std.proofs.Common.{◌≡◌, ℕ, ◌+◌, ◌<◌, ◌≤◌, List, [], ◌∷◌, ◌++◌, refl, sym, ap, ap₂, ◌∙◌, subst, arith, le_refl, le_trans, Some, None}
+use Rattle.std.proofs.Common.{◌≡◌, ℕ, ◌+◌, ◌<◌, ◌≤◌, List, [], ◌∷◌, ◌++◌, refl, sym, ap, ap₂, ◌∙◌, subst, arith, le_refl, le_trans, Some, None, Bool}
 use Rattle.plterm.specs.Tree.{Tree, Trees, var, int, atom, compound, none, more}
 use Rattle.plterm.specs.Variables.{AllBelow, EachBelow}
 use Rattle.plsubst.specs.Subst.{bind, bind_all}
@@ -12,18 +12,10 @@ use Rattle.plcode.specs.declared.node.Node.{Node}
 use Rattle.plenv.specs.Env.{Env, Covers, over}
 use Rattle.plenv.specs.Changes.{Substitutes, Unifies}
 use Rattle.plhead.specs.Equations.{Terms, Solves, left, right, AreEquations}
-use Rattle.plhead.specs.Fitting.{Stands}
-use Rattle.plhead.proofs.Listing.{solves-left, solves-right, solves-both}
+use Rattle.plhead.specs.Fitting.{Answers, Stands}
+use Rattle.plhead.specs.Progress.{Ends, Progress}
+use Rattle.plhead.proofs.Listing.{solves-left, solves-right, solves-both, solves-swap}
 use Rattle.plhead.proofs.Slots.{substitutes-none, substitutes-trans}
-
--- how far the unification of s and t has come: what has been put for variables, and the equations that are left
-pub record Progress (old new : Env) (base : ℕ) (w : Terms) (s t : Tree) (work : List (ℕ × Cell)) : Type 0 where
-  pub put_for : ℕ → Tree
-  pub made : Substitutes old new put_for
-  pub forced : (τ : ℕ → Tree) → bind τ s ≡ bind τ t → (y : ℕ) → bind τ (put_for y) ≡ τ y
-  pub left : (τ : ℕ → Tree) → bind τ s ≡ bind τ t → Solves τ new base w work
-  pub enough : (τ : ℕ → Tree) → Solves τ new base w work → bind τ (bind put_for s) ≡ bind τ (bind put_for t)
-  pub younger : BindsYounger put_for
 
 -- a unifier that a definition gives is most general, and binds the younger
 pub unifier-general : (a b : Tree) (σ : ℕ → Tree) → unify a b ≡ Some σ → IsMostGeneral a b σ
@@ -110,40 +102,68 @@ started e base w s t work stands = record {
     forced : (τ : ℕ → Tree) (y : ℕ) → bind τ (var y) ≡ τ y
     forced τ y = unfold bind in refl
 
+-- a unifier was put
+pub unified : (old new : Env) (base : ℕ) (w : Terms) (s t : Tree) → Unifies old new s t → Progress old new base w s t []
+unified old new base w s t u =
+    let general = unifier-general s t u.unifier u.is in
+    record {
+      put_for = u.unifier;
+      made = u.made;
+      forced = λ τ e y. general.1 τ e y;
+      left = λ τ e. tt;
+      enough = λ τ v. ap (bind τ) general.0;
+      younger = unifier-younger s t u.unifier u.is;
+    }
+
+-- the order of the equations does not matter
+pub swapped : (old new : Env) (base : ℕ) (w : Terms) (s t : Tree) (ps qs rs : List (ℕ × Cell)) → Progress old new base w s t ((ps ++ qs) ++ rs) → Progress old new base w s t ((ps ++ rs) ++ qs)
+swapped old new base w s t ps qs rs p = record {
+  put_for = p.put_for;
+  made = p.made;
+  forced = p.forced;
+  left = λ τ q. solves-swap τ new base w ps qs rs (p.left τ q);
+  enough = λ τ u. p.enough τ (solves-swap τ new base w ps rs qs u);
+  younger = p.younger;
+}
+
+-- an answer of each unification is that of the one that begins with these equations
+pub ended : (old new : Env) (base : ℕ) (w : Terms) (work : List (ℕ × Cell)) (fits : Bool) → Ends old new base w work fits → (s t : Tree) → Stands old base w work s t → Answers old new s t fits
+ended old new base w work fits ends s t stands = ends old s t (started old base w s t work stands)
+
 module _ (old h new : Env) (base : ℕ) (w : Terms) (nodes : List Node) (s t : Tree) (work rest : List (ℕ × Cell)) (p : ℕ × Cell)
     (taken : work ≡ rest ++ p ∷ []) (all : AreEquations h base nodes w rest) (come : Progress old h base w s t work) where
-  pub apart : (τ : ℕ → Tree) → Solves τ h base w work → Solves τ h base w rest × (bind τ (left h base w p) ≡ bind τ (right h p))
+  apart : (τ : ℕ → Tree) → Solves τ h base w work → Solves τ h base w rest × (bind τ (left h base w p) ≡ bind τ (right h p))
   apart τ u =
       let v = subst (Solves τ h base w) taken u in
       (solves-left τ h base w rest (p ∷ []) v, (solves-right τ h base w rest (p ∷ []) v).0)
 
-  pub join : (τ : ℕ → Tree) → Solves τ h base w rest → bind τ (left h base w p) ≡ bind τ (right h p) → Solves τ h base w work
+  join : (τ : ℕ → Tree) → Solves τ h base w rest → bind τ (left h base w p) ≡ bind τ (right h p) → Solves τ h base w work
   join τ u q = subst (Solves τ h base w) (sym taken) (solves-both τ h base w rest (p ∷ []) u (q, tt))
 
-  -- a unifier was put for the equation on top
-  pub came-on : Unifies h new (left h base w p) (right h p) → Progress old new base w s t rest
-  came-on u = record {
+  -- the equation on top gave way to others
+  pub came-on : (added : List (ℕ × Cell)) → Progress h new base w (left h base w p) (right h p) added → Progress old new base w s t (rest ++ added)
+  came-on added u = record {
     put_for = λ y. bind ρ (come.put_for y);
     made = substitutes-trans old h new come.put_for ρ come.made u.made;
     forced = λ τ e y. absorbed τ ρ (instance τ e) (come.put_for y) ∙ come.forced τ e y;
-    left = λ τ e. solves-after h new ρ u.made base w nodes τ (instance τ e) rest all (apart τ (come.left τ e)).0;
+    left = λ τ e.
+        let before = apart τ (come.left τ e) in
+        solves-both τ new base w rest added (solves-after h new ρ u.made base w nodes τ (instance τ e) rest all before.0) (u.left τ before.1);
     enough = λ τ v.
-        let before = join (λ y. bind τ (ρ y)) (solves-before h new ρ u.made base w nodes τ rest all v) (both τ) in
+        let behind = solves-before h new ρ u.made base w nodes τ rest all (solves-left τ new base w rest added v) in
+        let before = join (λ y. bind τ (ρ y)) behind (both τ (solves-right τ new base w rest added v)) in
         side τ s ∙ come.enough (λ y. bind τ (ρ y)) before ∙ sym (side τ t);
-    younger = λ x z e. younger-after ρ (unifier-younger (left h base w p) (right h p) ρ u.is) (come.put_for x) x z (come.younger x) e;
+    younger = λ x z e. younger-after ρ u.younger (come.put_for x) x z (come.younger x) e;
   }
     where
       ρ : ℕ → Tree
-      ρ = u.unifier
-
-      general : IsMostGeneral (left h base w p) (right h p) ρ
-      general = unifier-general (left h base w p) (right h p) ρ u.is
+      ρ = u.put_for
 
       instance : (τ : ℕ → Tree) → bind τ s ≡ bind τ t → (y : ℕ) → bind τ (ρ y) ≡ τ y
-      instance τ e = general.1 τ (apart τ (come.left τ e)).1
+      instance τ e = u.forced τ (apart τ (come.left τ e)).1
 
-      both : (τ : ℕ → Tree) → bind (λ y. bind τ (ρ y)) (left h base w p) ≡ bind (λ y. bind τ (ρ y)) (right h p)
-      both τ = sym (bind-bind τ ρ (left h base w p)) ∙ ap (bind τ) general.0 ∙ bind-bind τ ρ (right h p)
+      both : (τ : ℕ → Tree) → Solves τ new base w added → bind (λ y. bind τ (ρ y)) (left h base w p) ≡ bind (λ y. bind τ (ρ y)) (right h p)
+      both τ v = sym (bind-bind τ ρ (left h base w p)) ∙ u.enough τ v ∙ bind-bind τ ρ (right h p)
 
       side : (τ : ℕ → Tree) (q : Tree) → bind τ (bind (λ y. bind ρ (come.put_for y)) q) ≡ bind (λ y. bind τ (ρ y)) (bind come.put_for q)
       side τ q = ap (bind τ) (sym (bind-bind ρ come.put_for q)) ∙ bind-bind τ ρ (bind come.put_for q)

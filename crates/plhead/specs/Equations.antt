@@ -1,9 +1,10 @@
 -- Equations that are left to solve: a node's term against a value.
-use Rattle.std.specs.Prelude.{◌≡◌, ℕ, suc, ◌<◌, List, [], ◌∷◌, ◌++◌, length, map}
+use Rattle.std.specs.Prelude.{◌≡◌, ℕ, suc, ◌+◌, ◌<◌, List, [], ◌∷◌, ◌++◌, length, map}
 use Rattle.plterm.specs.Tree.{Tree}
 use Rattle.plsubst.specs.Subst.{bind}
 use Rattle.plcells.specs.declared.cell.Cell.{Cell}
 use Rattle.plcells.specs.Store.{Store, terms, value, AreValues, IsValue}
+use Rattle.plcells.specs.Walking.{weight}
 use Rattle.plcode.specs.declared.node.Node.{Node}
 use Rattle.plcode.specs.Packed.{node_at, IsArgument}
 use Rattle.plenv.specs.Env.{Env, Covers, over}
@@ -33,6 +34,11 @@ pub record IsEquation (e : Env) (base : ℕ) (nodes : List Node) (w : Terms) (p 
 abbrev pub AreEquations : Env → ℕ → List Node → Terms → List (ℕ × Cell) → Type 0
 AreEquations e base nodes w [] = Unit {0}
 AreEquations e base nodes w (p ∷ ps) = IsEquation e base nodes w p × AreEquations e base nodes w ps
+
+-- how many nodes the terms of the left sides have
+abbrev pub weigh : Terms → List (ℕ × Cell) → ℕ
+weigh w [] = 0
+weigh w (p ∷ ps) = weight (w p.0) + weigh w ps
 
 -- nodes from a place on beside values, the first one last
 abbrev pub pairs : ℕ → List Cell → List (ℕ × Cell)

@@ -1,5 +1,5 @@
 //! Heads against values.
-ghost use Rattle.std.specs.Prelude.{◌≡◌, ◌↔◌, IsTrue, ℕ, ◌+◌, ◌^◌, ◌<◌, ◌≤◌, map, length, true, false, None, IfOk};
+ghost use Rattle.std.specs.Prelude.{◌≡◌, ◌↔◌, IsTrue, ℕ, ◌+◌, ◌++◌, ◌^◌, ◌<◌, ◌≤◌, map, length, true, false, None, IfOk};
 ghost use Rattle.plterm.specs.Tree.{var, Tree};
 ghost use Rattle.plsubst.specs.Subst.{bind};
 ghost use Rattle.plsubst.specs.Unify.{unify};
@@ -9,14 +9,15 @@ ghost use Rattle.plcode.specs.Laying.{IsLaid};
 ghost use Rattle.plcode.specs.declared.node.Node.TheVariants.{Var as VarNode};
 ghost use Rattle.plcode.specs.Packed.{node_at, ArePacked, IsArgument};
 ghost use Rattle.plenv.specs.declared.slot.Slot.TheVariants.{Free as FreeSlot};
-ghost use Rattle.plenv.specs.Env.{over, slot_at, variable, Covers, IsSlot};
+ghost use Rattle.plenv.specs.Env.{over, slot_at, variable, Covers, IsEnv, IsSlot};
 ghost use Rattle.plenv.specs.Changes.{Keeps, Unifies};
 ghost use Rattle.plenv.specs.Rows.{row_at, tree_at, CoversAll};
-ghost use Rattle.plhead.specs.Equations.{AreEquations};
-ghost use Rattle.plhead.specs.Fitting.{Answers, Comes, NotUnifiable, Stands, UnifiesAll};
+ghost use Rattle.plhead.specs.Equations.{left, pairs, right, AreEquations, IsEquation};
+ghost use Rattle.plhead.specs.Fitting.{Comes, NotUnifiable, UnifiesAll};
+ghost use Rattle.plhead.specs.Progress.{Ends, Onward, Reduces};
 
 use crate::compare::{Verdict, compare, verdict_of};
-use crate::work::{push_arguments, push_values};
+use crate::work::push_arguments;
 use plcells::cell::Cell;
 use plcells::heap::Heap;
 use plcells::id::CellId;
@@ -149,6 +150,33 @@ fn meet(
     meet_other(env, nodes, base, at, v)
 }
 
+/// Meets the sides of an equation, and puts the equations of their arguments on the list: whether they may have a unifier.
+#[inline(always)]
+fn reduce(
+    env: &mut Environment,
+    nodes: &[Node],
+    base: u32,
+    equation: (u32, Cell),
+    work: &mut Vec<(u32, Cell)>,
+) -> Result<bool, AllocError>
+    requires sound { IsSound env.old.heap.names nodes.now }
+    requires packed { ArePacked nodes.now }
+    requires few { length nodes.now < 2 ^ 32 }
+    requires is { IsEquation env.old base nodes.now (tree_at env.old.heap.names nodes.now) equation }
+    ensures yes { IfOk result (λ may. may ≡ true → Reduces env.old env.new base nodes.now (tree_at env.old.heap.names nodes.now) equation work.old.items work.new.items) }
+    ensures no { IfOk result (λ may. may ≡ false → unify (left env.old base (tree_at env.old.heap.names nodes.now) equation) (right env.old equation) ≡ None) }
+    ensures keeps { Keeps env.old env.new }
+{
+    match meet(env, nodes, base, equation.0, equation.1)? {
+        Verdict::Same => Ok(true),
+        Verdict::Clash => Ok(false),
+        Verdict::Args(first, cells, count) => {
+            push_arguments(work, env.heap(), first, cells, count)?;
+            Ok(true)
+        }
+    }
+}
+
 /// Solves equations of nodes, of a clause whose slots begin at a place, and values: whether they have a solution.
 fn solve(
     env: &mut Environment,
@@ -160,20 +188,12 @@ fn solve(
     requires packed { ArePacked nodes.now }
     requires few { length nodes.now < 2 ^ 32 }
     requires equations { AreEquations env.old base nodes.now (tree_at env.old.heap.names nodes.now) work.old.items }
-    ensures answers { IfOk result (λ fits. (s t : Tree) → Stands env.old base (tree_at env.old.heap.names nodes.now) work.old.items s t → Answers env.old env.new s t fits) }
+    ensures answers { IfOk result (Ends env.old env.new base (tree_at env.old.heap.names nodes.now) work.old.items) }
     ensures keeps { Keeps env.old env.new }
 {
     while let Some(equation) = work.pop() {
-        match meet(env, nodes, base, equation.0, equation.1)? {
-            Verdict::Same => {}
-            Verdict::Clash => return Ok(false),
-            Verdict::Args(first, cells, count) => push_arguments(
-                work,
-                env.heap(),
-                first,
-                cells,
-                count,
-            )?,
+        if !reduce(env, nodes, base, equation, work)? {
+            return Ok(false);
         }
     }
     Ok(true)
@@ -184,6 +204,47 @@ fn solve(
 pub struct Head {
     pub row: Row,
     pub base: u32,
+}
+
+/// Unifies the arguments of a head that are variables with their values, and puts the equations of the others on the list, the first on top:
+/// whether all may have a unifier.
+fn meet_values(
+    env: &mut Environment,
+    nodes: &[Node],
+    head: Head,
+    values: &[Cell],
+    work: &mut Vec<(u32, Cell)>,
+) -> Result<bool, AllocError>
+    requires laid { IsLaid env.old.heap.names nodes.now }
+    requires few { length nodes.now < 2 ^ 32 }
+    requires row { head.row.at + length values.now ≤ length nodes.now }
+    requires equations { AreEquations env.old head.base nodes.now (tree_at env.old.heap.names nodes.now) (work.old.items ++ pairs head.row.at values.now) }
+    ensures yes { IfOk result (λ may. may ≡ true → Onward env.old env.new head.base nodes.now (tree_at env.old.heap.names nodes.now) (work.old.items ++ pairs head.row.at values.now) work.new.items) }
+    ensures no { IfOk result (λ may. may ≡ false → Ends env.old env.new head.base (tree_at env.old.heap.names nodes.now) (work.old.items ++ pairs head.row.at values.now) false) }
+    ensures keeps { Keeps env.old env.new }
+{
+    let mut i = values.len();
+    while i > 0 {
+        i -= 1;
+        let at = head.row.at + i as u32;
+        if let Node::Var(x) = nodes[at as usize] {
+            let slot = env.slot_of(head.base, x);
+            if !meet_slot(env, slot, values[i])? {
+                return Ok(false);
+            }
+        } else {
+            work.push((at, values[i]))?;
+        }
+    }
+    Ok(true)
+}
+
+/// What is known of every environment.
+#[inline(always)]
+fn known(env: &Environment)
+    ensures { IsEnv env.now }
+{
+    let _ = env.heap();
 }
 
 /// Room for the work of unifying heads, which keeps its memory between calls.
@@ -222,7 +283,10 @@ impl Matcher {
         ensures keeps { Keeps env.old env.new }
     {
         self.work.clear();
-        push_values(&mut self.work, head.row.at, values)?;
+        if !meet_values(env, nodes, head, values, &mut self.work)? {
+            return Ok(false);
+        }
+        known(env);
         solve(env, nodes, head.base, &mut self.work)
     }
 }

@@ -1,7 +1,7 @@
 //! The list of equations that are left.
-ghost use Rattle.std.specs.Prelude.{◌≡◌, ℕ, ◌+◌, ◌++◌, ◌^◌, ◌<◌, ◌≤◌, length, OnOk};
+ghost use Rattle.std.specs.Prelude.{◌≡◌, ℕ, ◌+◌, ◌^◌, ◌<◌, ◌≤◌, length, OnOk};
 ghost use Rattle.plcells.specs.Store.{at as cell_at, IsHead};
-ghost use Rattle.plhead.specs.Equations.{pairs, Pushes};
+ghost use Rattle.plhead.specs.Equations.{Pushes};
 
 use plcells::cell::Cell;
 use plcells::heap::Heap;
@@ -27,24 +27,6 @@ pub(crate) fn push_arguments(
     while i > 0 {
         i -= 1;
         work.push((at + i, heap.argument(cells.after(i))))?;
-    }
-    Ok(())
-}
-
-/// Puts nodes from a place on beside as many values on the list, the first on top.
-#[inline(always)]
-pub(crate) fn push_values(
-    work: &mut Vec<(u32, Cell)>,
-    at: u32,
-    values: &[Cell],
-) -> Result<(), AllocError>
-    requires { at + length values.now < 2 ^ 32 }
-    ensures { OnOk result (work.new.items ≡ work.old.items ++ pairs at values.now) }
-{
-    let mut i = values.len();
-    while i > 0 {
-        i -= 1;
-        work.push((at + i as u32, values[i]))?;
     }
     Ok(())
 }

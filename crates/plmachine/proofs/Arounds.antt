@@ -20,7 +20,7 @@ around-grown s t (arounds.Branch l) g is = let x = g.extends.lists l is.0 in (ap
 around-grown s t (arounds.Handle h) g is =
     let x = handled-same s.env.heap t.env.heap g.extends.values h.handler is.handler in
     let l = g.extends.lists h.list is.list in
-    (ap₂ (λ y p. Handle y p ∷ []) x.1 (ap₂ (λ gs n. record { goals = gs; variables = n }) l.1 g.count), record { handler = x.0; list = l.0; fits = fits-grown s t g h.list is.list is.fits })
+    (ap₂ (λ y p. Handle y p ∷ []) x.1 (ap₂ (λ gs n. record { goals = gs; variables = n }) l.1 g.count), record { guards = is.guards; handler = x.0; list = l.0; fits = fits-grown s t g h.list is.list is.fits })
 
 pub run-same : (p p' : Indicator) → p ≡ p' → (r r' : Runnable) (cs cs' : List Case) (k k' : ℕ) (es es' : List Element) (n n' : ℕ) (w w' : Local) → r ≡ r' → cs ≡ cs' → k ≡ k' → es ≡ es' → n ≡ n' → w ≡ w' → run r p cs k es n w ≡ run r' p' cs' k' es' n' w'
 run-same p p' z r r' cs cs' k k' es es' n n' w w' a b c d e f =

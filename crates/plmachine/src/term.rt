@@ -52,6 +52,7 @@ impl Machine {
 
     /// The row of a goal by where its term stands. One of an arithmetic predicate that stands in a clause, and needs no cell, leaves the heap
     /// as it is.
+    #[inline(always)]
     pub(crate) fn solve(
         &mut self,
         program: &Program,
@@ -127,6 +128,7 @@ impl Machine {
     }
 
     /// The number by which a goal is called, and the values of its arguments; none for a variable or an integer.
+    #[inline(always)]
     fn number(&mut self, source: &Source) -> Result<Option<Number>, AllocError>
         requires source { (t : Tree) × StandsFor self.old.stack source.now t }
         ensures callable { IfOk result (λ found. IfSome found (λ n. IsCallable self.new.stack.env.heap.names n (length self.new.args.items))) }

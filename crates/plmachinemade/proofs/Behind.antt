@@ -12,15 +12,14 @@ use Rattle.pllinks.specs.declared.link.Continuation.{Continuation}
 use Rattle.plstack.specs.Levels.{FitsIn, Precedes, Sort}
 use Rattle.plstack.specs.First.{AtBoth, AtGoal, AtMarker, AtStep}
 use Rattle.plstack.specs.State.{State, goals_of, kinds_in, AddsList, IsEmptyOrFit, IsFit, IsList}
+use Rattle.plstack.proofs.Beginning.{both-fits}
 use Rattle.plstack.proofs.Naming.{fits-top}
 use Rattle.plmachine.proofs.Levels.{fits_behind, same-kinds}
 use Rattle.plmachinemade.specs.Ready.{IsFirstGoal}
 
 -- the two goals of a conjunction
-pub both_behind : (s : State) (es : List Element) (next : Continuation) → AtBoth s es next → IsList s next × IsEmptyOrFit s next
-both_behind s es next a =
-    let f = subst (FitsIn (kinds_in s)) a.goals a.levels in
-    (a.there, inr (subst (FitsIn (kinds_in s)) (sym a.next_goals) ((f.0.0, f.0.1, (le_refl _, f.0.1, f.0.2)), f.1)))
+pub both_behind : (s : State) (es : List Element) (next : Continuation) (x : Step) → AtBoth s es next x → IsList s next × IsEmptyOrFit s next
+both_behind s es next x a = (a.there, both-fits s es next x a)
 
 -- behind a goal of a clause, and behind one that is a term
 pub step_behind : (s : State) (es : List Element) (r : ClauseGoals) (x : Step) (rest : Continuation) → AtStep s es r x rest → IsList s rest × IsEmptyOrFit s rest

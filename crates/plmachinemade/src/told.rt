@@ -204,7 +204,7 @@ fn put_first(found: &mut String, alloc: Global, stack: &Stack) -> Result<Option<
 {
     match stack.first() {
         First::Nothing => Ok(None),
-        First::Both(next) => {
+        First::Both(next, _) => {
             write!(found, " *both")?;
             Ok(Some(next))
         }

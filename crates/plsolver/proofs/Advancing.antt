@@ -1,5 +1,5 @@
 -- Steps that are taken in one advance, and what begins by them.
-use Rattle.std.proofs.Common.{◌≡◌, ◌-◌, ◌≤◌, ap, sym, subst, ◌∙◌, refl, arith}
+use Rattle.std.proofs.Common.{◌≡◌, ◌-◌, ◌≤◌, ap, sym, subst, ◌∙◌, refl, arith, inl, inr}
 use Rattle.plprogram.specs.Program.{Program}
 use Rattle.plsearch.specs.Types.{Move}
 use Rattle.plsearch.specs.Machines.Machine.{Rest}
@@ -12,7 +12,7 @@ use Rattle.plmachine.specs.Machine.{IsPlain, MovedBy, SeeksAnew}
 use Rattle.plmachine.specs.Machine.{Stays as StaysThere}
 use Rattle.plmachine.proofs.Moves.{tied-as}
 use Rattle.plsolver.specs.declared.progress.Progress.{Progress}
-use Rattle.plsolver.specs.Advancing.{AdvancesTo, BeginsBySteps, NoStep, OneMore, SettlesTo, StepsTo, WalksBySteps}
+use Rattle.plsolver.specs.Advancing.{AdvancesTo, BeginsBySteps, NoStep, OneMore, SettlesTo, StepsOn, StepsTo, WalksBySteps}
 use Rattle.plsolver.specs.Asking.{activations, in_cases, Onward}
 use Rattle.plsolver.specs.Solver.{Selects}
 use Rattle.plsolver.proofs.Ending.{ends_same, ends_trans}
@@ -59,6 +59,10 @@ advances_settles P a b c (OneMore {due} {taken} far step f) g = OneMore far step
 
 pub advances_steps : (P : Program) (a b c : Progress) → AdvancesTo P a b → StepsTo P b c → AdvancesTo P a c
 advances_steps P a b c far step = OneMore far step (settles_nowhere P c)
+
+pub advances_on : (P : Program) (a b c : Progress) → AdvancesTo P a b → StepsOn b c → AdvancesTo P a c
+advances_on P a b c far (inl same) = subst (AdvancesTo P a) (sym same) far
+advances_on P a b c far (inr step) = advances_steps P a b c far (step P)
 
 -- ---- what begins
 

@@ -31,6 +31,7 @@ use Rattle.plstack.specs.State.{State, IsList, IsHandler, IsUndo, BeginsWith, Ha
 use Rattle.plstack.specs.Basis.{BasisBehind}
 use Rattle.plstack.specs.Opening.{ClosedAs}
 use Rattle.plstack.proofs.Fitted.{kinds-in}
+use Rattle.plstack.proofs.Undoing.{guards-frame}
 use Rattle.plstack.proofs.Stacks.{depth-in}
 use Rattle.plmachine.specs.declared.machine.Outcome.{Outcome}
 use Rattle.plmachine.specs.declared.machine.Mode.TheVariants as modes
@@ -64,8 +65,7 @@ handler-only (Open p (resumes.Clauses c) ∷ fs) handler undo = handler
 handler-only (Open p (resumes.Walk w) ∷ fs) handler undo = handler
 handler-only (Open p (resumes.Answers a) ∷ fs) handler undo = handler
 handler-only (Open p resumes.List ∷ fs) handler undo = handler
-handler-only (Open p (resumes.Handle x) ∷ fs) handler undo = undo
-handler-only (Open p resumes.Undo ∷ fs) handler undo = handler
+handler-only (Open p (resumes.Handle x) ∷ fs) handler undo = guards-frame p x handler undo
 
 some-frame : (s : State) → HasHandler s → ((db : Database) → cases_of db s ≡ []) → ⊥
 some-frame s has none = go (reverse s.frames) has (no-kinds ∙ refl)

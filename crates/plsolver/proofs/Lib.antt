@@ -27,3 +27,4 @@ pub mod Sweeping
 pub mod Asking
 pub mod Asked
 pub mod Advancing
+pub mod Conjunctions

@@ -16,6 +16,7 @@ use Rattle.plsearch.specs.Machines.Weight.{weight}
 use Rattle.plsearch.specs.Search.{ending_of}
 use Rattle.plsearch.proofs.Turns.{Rest-turn}
 use Rattle.plcode.specs.Callees.{IsProgramCode}
+use Rattle.plcode.specs.declared.op.Step.{Step}
 use Rattle.plcode.specs.Steps.{of_two}
 use Rattle.plenv.specs.Env.{over}
 use Rattle.pllinks.specs.declared.link.Continuation.{Continuation}
@@ -172,7 +173,7 @@ steps_on P s t new of a b = record {
 
 -- a goal that is to be selected begins the list
 pub selected-goal : (s : Reached) (x : Selected) → IsSelected s x → (k : ℕ) × (t : Tree) × (rest : List Element) × (goals_of s.stack s.stack.goals ≡ Goal k t ∷ rest)
-selected-goal s (goals.Both next) is = (is.1.level, of_two (codes ",") is.1.left is.1.right, is.1.rest, is.1.goals)
+selected-goal s (goals.Both next x) is = (is.1.level, of_two (codes ",") is.1.left is.1.right, is.1.rest, is.1.goals)
 selected-goal s (goals.Step r x rest) is = (r.level, bind (over s.stack.env r.base) is.1.goal, goals_of s.stack rest, is.1.goals)
 selected-goal s (goals.Goal k v rest) is = (k, value s.stack.env.heap v, goals_of s.stack rest, is.1.goals)
 
@@ -188,9 +189,9 @@ selects-row P s new k t rest is moved k' t' rest' goals =
     subst (λ (m : Views → Move). MovedBy P s new m)
     (ap₂ (λ k t v. row P (below_in v s) (form t) k t (depth_of s) rest s.stack.env.count (local_of s)) level goal ∙ ap (λ es v. row P (below_in v s) (form t') k' t' (depth_of s) es s.stack.env.count (local_of s)) behind) moved
 
-pub selects-both : (P : Program) (s new : Reached) (next : Continuation) → AtBoth s.stack (goals_of s.stack s.stack.goals) next → new ≡ record s { stack = record s.stack { goals = next }; mode = modes.Visit } → Selects P s new
+pub selects-both : (P : Program) (s new : Reached) (next : Continuation) (x : Step) → AtBoth s.stack (goals_of s.stack s.stack.goals) next x → new ≡ record s { stack = record s.stack { goals = next }; mode = modes.Visit } → Selects P s new
 unfolding row cases_of
-selects-both P s new next b is =
+selects-both P s new next x b is =
     let n : ℕ = s.stack.env.count in
     let w : Local = local_of s in
     selects-row P s new b.level (of_two (codes ",") b.left b.right) b.rest b.goals

@@ -1,5 +1,5 @@
 -- How a search advances between two answers: by steps, and between them without one.
-use Rattle.std.specs.Prelude.{◌≡◌, ◌-◌}
+use Rattle.std.specs.Prelude.{◌≡◌, ◌⊎◌, ◌-◌}
 use Rattle.plprogram.specs.Program.{Program}
 use Rattle.plsolver.specs.declared.progress.Selected.{Selected}
 use Rattle.plsolver.specs.declared.progress.Progress.{Progress}
@@ -32,6 +32,10 @@ pub record AdvancesInPart (P : Program) (old new : Progress) : Type 0 where
   pub advances : AdvancesTo P old reached
   pub used : new.used ≡ reached.used
   pub walks : Onward 0 (activations reached.machine) (in_cases new.machine.stack)
+
+-- it stays, or took a step
+abbrev pub StepsOn : Progress → Progress → Type 0
+StepsOn old new = (new ≡ old) ⊎ ((P : Program) → StepsTo P old new)
 
 -- so at most as many look-ups and walks begin as steps are taken
 abbrev pub BeginsBySteps : Type 0

@@ -176,7 +176,7 @@ pub record TakesView (P : Program) (old new : Progress) (g : ℕ) : Type 0 where
 
 -- a goal that is to be selected, as the first of a list
 abbrev pub first_of : Selected → First
-first_of (goals.Both next) = firsts.Both next
+first_of (goals.Both next x) = firsts.Both next x
 first_of (goals.Step r x rest) = firsts.Step r x rest
 first_of (goals.Goal k v rest) = firsts.Goal k v rest
 

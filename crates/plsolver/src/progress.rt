@@ -1,15 +1,19 @@
 //! How far a search has come, and how it goes on.
 
-ghost use Rattle.std.specs.Prelude.{◌≡◌, ◌+◌, ◌<◌, ◌≤◌, [], IfOk, OnOk, OnErr};
+ghost use Rattle.std.specs.Prelude.{◌≡◌, ℕ, ◌+◌, ◌<◌, ◌≤◌, [], IfOk, OnOk, OnErr};
 ghost use Rattle.plprogram.specs.Program.{Program as Given};
+ghost use Rattle.pllinks.specs.declared.item.MarkerKind.{MarkerKind as OfKind};
+ghost use Rattle.pllinks.specs.declared.link.Continuation.{Continuation as Continued};
+ghost use Rattle.plstack.specs.declared.first.First.TheVariants as firsts;
 ghost use Rattle.plstack.specs.State.{walks_in, EndsWalks};
 ghost use Rattle.plstore.specs.Looking.{Views};
 ghost use Rattle.plsearch.specs.Search.{search_of};
 ghost use Rattle.plsearch.specs.Solving.{Begins};
 ghost use Rattle.plmachine.specs.Machine.{IsPlain};
-ghost use Rattle.plsolver.specs.Advancing.{AdvancesInPart, AdvancesTo, SettlesTo, StepsTo};
+ghost use Rattle.plsolver.specs.Advancing.{AdvancesInPart, AdvancesTo, SettlesTo, StepsOn, StepsTo};
 ghost use Rattle.plsolver.specs.Asking.{activations, in_cases, Further, Onward};
-ghost use Rattle.plsolver.specs.Solver.{GoesTo, IsOf, IsSelected, Selects, Stays, latest_view, rest_of, Settled};
+ghost use Rattle.plsolver.specs.declared.progress.Selected.TheVariants as TheSelected;
+ghost use Rattle.plsolver.specs.Solver.{first_of, GoesTo, IsOf, IsSelected, Selects, Stays, latest_view, rest_of, Settled};
 ghost use Rattle.plsolver.specs.Says.{Says, IsSlice};
 
 use crate::solver::Turn;
@@ -22,6 +26,7 @@ use pllinks::level::Level;
 use pllinks::link::Continuation;
 use plmachine::machine::Machine;
 use plprogram::program::Program;
+use plstack::first::First;
 use std::alloc::{AllocError, Global};
 
 /// How far a search has come.
@@ -39,8 +44,8 @@ pub struct Progress {
 /// A goal that is to be selected: the first of the visited list.
 #[derive(Clone, Copy)]
 pub enum Selected {
-    /// A conjunction of a clause's body: the list in which its two goals stand in its place.
-    Both(Continuation),
+    /// A conjunction of a clause's body: the list in which its two goals stand in its place, and the step that its run begins with.
+    Both(Continuation, Step),
     /// Any other goal of a clause's body: the run that begins with it, its step, and the list behind it.
     Step(ClauseGoals, Step, Continuation),
     /// A goal that is a term: its cut level, its value, and the list behind it.
@@ -118,8 +123,54 @@ impl Progress {
             if self.used == until {
                 return Ok(Turn::Slice);
             }
+            let selected = self.past_conjunction(selected, until);
             self.step(program, selected)?;
         }
+    }
+
+    /// Takes the step of a conjunction that is due, if one more is left behind it: the goal that is due then.
+    #[tactic(auto, using(crate::proofs::Runs::goes_nowhere))]
+    #[inline(always)]
+    fn past_conjunction(&mut self, selected: Selected, until: u64) -> Selected
+        requires first { IsSelected self.old.machine selected }
+        requires left { self.old.used < until }
+        requires within { until ≤ self.old.limit }
+        ensures first { IsSelected self.new.machine result }
+        ensures left { self.new.used < until }
+        ensures rises { self.old.used ≤ self.new.used }
+        ensures goes { (P : Given) → GoesTo P self.old self.new }
+        ensures of { (P : Given) → IsOf P self.old.machine → IsOf P self.new.machine }
+        ensures latest { latest_view self.new ≡ latest_view self.old }
+        ensures limit { self.new.limit ≡ self.old.limit }
+        ensures places { self.new.places.items ≡ self.old.places.items }
+        ensures steps { StepsOn self.old self.new }
+    {
+        if self.used + 1 == until {
+            return selected;
+        }
+        match &selected {
+            Selected::Both(next, step) => self.pass_both(*next, *step),
+            Selected::Step(_, _, _) => selected,
+            Selected::Goal(_, _, _) => selected,
+        }
+    }
+
+    /// Takes the step of a conjunction, by the list in which its goals stand in its place and the step that its run begins with: the goal that is
+    /// due then.
+    #[inline(always)]
+    fn pass_both(&mut self, next: Continuation, step: Step) -> Selected
+        requires first { IsSelected self.old.machine (TheSelected.Both next step) }
+        requires within { self.old.used + 1 ≤ self.old.limit }
+        ensures first { IsSelected self.new.machine result }
+        ensures frame { self.new ≡ record self.old { machine = self.new.machine; used = self.old.used + 1 } }
+        ensures of { (P : Given) → IsOf P self.old.machine → IsOf P self.new.machine }
+        ensures latest { latest_view self.new ≡ latest_view self.old }
+        ensures steps { (P : Given) → StepsTo P self.old self.new }
+    {
+        self.machine.stack.visit(next);
+        self.used += 1;
+        let first = self.machine.stack.first_of_step(step);
+        selected_of(first)
     }
 
     /// How many steps there are once so much fuel is used, or all that may be taken.
@@ -150,19 +201,27 @@ impl Progress {
         ensures err { OnErr result (Stays program.now self.old self.new) }
         ensures walks { EndsWalks self.old.machine.stack self.new.machine.stack }
     {
+        let depth = self.machine.stack.depth();
         self.select(program, &selected)?;
         self.used += 1;
-        self.give_back(&selected);
+        self.give_back(&selected, depth);
         Ok(())
     }
 
-    /// Gives back goal lists and slots that nothing holds, once a goal was selected. A conjunction leaves none.
-    fn give_back(&mut self, selected: &Selected)
+    /// Gives back goal lists and slots that nothing holds, once a goal was selected, at whose selection cases were open up to a level. A
+    /// conjunction leaves none, and what a goal leaves behind which its clause goes on in as many cases waits for the clause's next call.
+    fn give_back(&mut self, selected: &Selected, depth: Level)
         ensures stays { (P : Given) → Stays P self.old self.new }
         ensures mode { self.new.machine.mode ≡ self.old.machine.mode }
     {
-        if let Selected::Both(_) = selected {
-            return;
+        match selected {
+            Selected::Both(_, _) => return,
+            Selected::Step(run, _, rest) => {
+                if self.machine.stack.goes_on(rest, run.end, depth) {
+                    return;
+                }
+            }
+            Selected::Goal(_, _, _) => {}
         }
         self.machine.stack.give_back();
     }
@@ -180,7 +239,7 @@ impl Progress {
         ensures walks { EndsWalks self.old.machine.stack self.new.machine.stack }
     {
         match selected {
-            Selected::Both(next) => {
+            Selected::Both(next, _) => {
                 self.machine.stack.visit(*next);
                 Ok(())
             }
@@ -233,5 +292,21 @@ impl Progress {
                 Some(due) => return Ok(due),
             }
         }
+    }
+}
+
+/// The goal that stands first.
+#[inline(always)]
+fn selected_of(first: First) -> Selected
+    requires some { first ≡ firsts.Nothing → ⊥ }
+    requires goal { (kind : OfKind) (level : ℕ) (rest : Continued) → first ≡ firsts.Marker kind level rest → ⊥ }
+    ensures { first_of result ≡ first }
+{
+    match first {
+        First::Both(next, step) => Selected::Both(next, step),
+        First::Step(run, step, rest) => Selected::Step(run, step, rest),
+        First::Goal(level, v, rest) => Selected::Goal(level, v, rest),
+        First::Nothing => unreachable!(),
+        First::Marker(_, _, _) => unreachable!(),
     }
 }

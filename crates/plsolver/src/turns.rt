@@ -66,7 +66,7 @@ impl Progress {
                 self.pass_marker(kind, level, rest)?;
                 return Ok(None);
             }
-            First::Both(next) => Selected::Both(next),
+            First::Both(next, step) => Selected::Both(next, step),
             First::Step(run, step, rest) => Selected::Step(run, step, rest),
             First::Goal(level, v, rest) => Selected::Goal(level, v, rest),
         };

@@ -1,5 +1,5 @@
 -- What stands first in a list: of its run, or of the links behind it.
-use Rattle.std.proofs.Common.{◌≡◌, ℕ, ◌+◌, ◌-◌, ◌<◌, ◌≤◌, List, [], ◌∷◌, ◌++◌, length, map, codes, refl, sym, ap, ◌∙◌, subst, arith, take, true, false, add-one, inl, inr, if◌then◌else◌}
+use Rattle.std.proofs.Common.{◌≡◌, ℕ, ◌+◌, ◌-◌, ◌<◌, ◌≤◌, List, [], ◌∷◌, ◌++◌, length, map, codes, refl, sym, ap, ◌∙◌, subst, arith, take, true, false, add-one, inl, inr, le_refl, if◌then◌else◌}
 use Rattle.std.proofs.lemmas.Bool.{cases_lt}
 use Rattle.plterm.specs.Tree.{Tree}
 use Rattle.plsubst.specs.Subst.{bind}
@@ -23,6 +23,7 @@ use Rattle.pllinks.specs.declared.link.Continuation.{Continuation}
 use Rattle.pllinks.specs.Lists.{goal_of, run_goals, elements, all_elements, IsRun, IsItem, AreItems}
 use Rattle.pllinks.specs.Links.{alone, done, list_at, link_at}
 use Rattle.pllinks.proofs.Arena.{list_at-none}
+use Rattle.plstack.specs.Levels.{FitsIn}
 use Rattle.plstack.proofs.Naming.{some-fits}
 use Rattle.plstack.specs.State.{State, goals_in, kinds_in, goals_of, IsEmptyOrFit, IsList, IsState}
 use Rattle.plstack.specs.First.{AtBoth, AtStep, AtGoal, AtMarker, IsShort, IsStep}
@@ -111,9 +112,10 @@ module _ (s : State) (l : Continuation) (there : IsList s l) (x : Step) (step : 
     both-goals : goals_of s l ≡ Goal l.run.level (bind σ (of_two (codes ",") sel.left sel.right)) ∷ (map (goal_of s.env l.run) sel.rest ++ tail s l)
     both-goals = goals-are s l (of_two (codes ",") sel.left sel.right ∷ sel.rest) sel.goals
 
-    pub both : IsEmptyOrFit s l → AtBoth s (goals_of s l) next
+    pub both : IsEmptyOrFit s l → AtBoth s (goals_of s l) next x
     unfolding bind
     both levels = record {
+      step = step;
       level = l.run.level;
       left = bind σ sel.left;
       right = bind σ sel.right;
@@ -221,3 +223,9 @@ module _ (s : State) (is : IsState s) (l : Continuation) (there : IsList s l) wh
       there = behind-link;
       levels = some-fits (kinds_in s) (goals_of s l) _ _ (link-goals end ∙ ap (λ x. elements (goals_in s) s.env x ++ goals_of s (alone k.next)) e) levels;
     }
+
+-- the two goals of a conjunction fit in the open cases
+pub both-fits : (s : State) (es : List Element) (next : Continuation) (x : Step) → AtBoth s es next x → IsEmptyOrFit s next
+both-fits s es next x b =
+    let f = subst (FitsIn (kinds_in s)) b.goals b.levels in
+    inr (subst (FitsIn (kinds_in s)) (sym b.next_goals) ((f.0.0, f.0.1, (le_refl _, f.0.1, f.0.2)), f.1))

@@ -12,6 +12,7 @@ use Rattle.pllinks.specs.declared.item.Portion.{Portion}
 use Rattle.pllinks.specs.declared.link.Link.{Link}
 use Rattle.pllinks.specs.Lists.{Goals}
 use Rattle.pllinks.specs.Links.{items_of}
+use Rattle.plstack.specs.declared.frame.Handler.TheVariants as handlers
 use Rattle.plstack.specs.declared.frame.Resume.{Resume}
 use Rattle.plstack.specs.declared.frame.Resume.TheVariants as resumes
 use Rattle.plstack.specs.declared.frame.Frame.{Frame}
@@ -55,8 +56,9 @@ module _ (db : Database) (code : Goals) (e : Env) (links : List Link) (saved : L
   chosen d x xs vs (resumes.Walk w) i = record { places = _; is = refl }
   chosen d x xs vs (resumes.Answers a) i = record { places = _; is = refl }
   chosen d x xs vs resumes.List i = record { places = _; is = refl }
-  chosen d x xs vs (resumes.Handle y) i = absurd (cc)
-  chosen d x xs vs resumes.Undo i = absurd (cc)
+  chosen d x xs vs (resumes.Handle (handlers.Catch c)) i = absurd (cc)
+  chosen d x xs vs (resumes.Handle (handlers.Gather v)) i = absurd (cc)
+  chosen d x xs vs (resumes.Handle handlers.Undo) i = absurd (cc)
 
   one-splits : (f : Frame) (base : List Case) (level : ℕ) → IsChoice f → deeper base 0 ≤ level → level < deeper base 0 + size f → Splits (opened db code e links saved f base) level (plain (level - deeper base 0) base)
   one-splits (Plain n) base level choice low high =

@@ -76,7 +76,6 @@ left-walks s rest f popped has = pushed-walks s.frames rest f popped ∙ none f 
     none (Open p (resumes.Answers a)) i = absurd i
     none (Open p resumes.List) i = absurd i
     none (Open p (resumes.Handle x)) i = absurd i
-    none (Open p resumes.Undo) i = absurd i
 
 -- ---- the innermost walk
 

@@ -148,7 +148,6 @@ without s rest db x below e (Open p (resumes.Walk w)) i is = absurd i
 without s rest db x below e (Open p (resumes.Answers a)) i is = absurd i
 without s rest db x below e (Open p resumes.List) i is = absurd i
 without s rest db x below e (Open p (resumes.Handle y)) i is = absurd i
-without s rest db x below e (Open p resumes.Undo) i is = absurd i
 
 -- without the innermost case, a call
 pub left-call : (s : State) (rest : List Frame) (f : Frame) → s.frames ≡ rest ++ f ∷ [] → HasClauses s → (db : Database) (x : Case) (below : List Case) → cases_of db s ≡ x ∷ below →
@@ -173,7 +172,6 @@ left-stack s d is rest f popped has =
     one (Open p (resumes.Answers a)) i = absurd i
     one (Open p resumes.List) i = absurd i
     one (Open p (resumes.Handle y)) i = absurd i
-    one (Open p resumes.Undo) i = absurd i
 
     stays : (f : Frame) → IsClauses f → IsUndo f → ⊥
     stays (Plain n) i u = u
@@ -181,5 +179,4 @@ left-stack s d is rest f popped has =
     stays (Open p (resumes.Walk w)) i u = u
     stays (Open p (resumes.Answers a)) i u = u
     stays (Open p resumes.List) i u = u
-    stays (Open p (resumes.Handle y)) i u = u
-    stays (Open p resumes.Undo) i u = i
+    stays (Open p (resumes.Handle y)) i u = i

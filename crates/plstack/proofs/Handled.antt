@@ -1,5 +1,5 @@
 -- Handlers over heaps in which all values stand for the same.
-use Rattle.std.proofs.Common.{◌≡◌, ap, ap₂}
+use Rattle.std.proofs.Common.{◌≡◌, refl, ap, ap₂}
 use Rattle.plcells.specs.declared.cell.Cell.{Cell}
 use Rattle.plcells.specs.Store.{Store, IsValue, value}
 use Rattle.plsearch.specs.Types.{Catch, Gather}
@@ -14,3 +14,4 @@ handled-same old new same (handlers.Catch c) i =
     let b = same c.recovery i.1 in
     ((a.0, b.0), ap₂ Catch a.1 b.1)
 handled-same old new same (handlers.Gather v) i = let a = same v i in (a.0, ap Gather a.1)
+handled-same old new same handlers.Undo i = (tt, refl)

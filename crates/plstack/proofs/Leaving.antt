@@ -42,7 +42,7 @@ caught (Open p (resumes.Answers a)) m i = absurd i
 caught (Open p resumes.List) m i = absurd i
 caught (Open p (resumes.Handle (handlers.Catch c))) m i = record { point = p; catcher = c; marks = i; is = refl }
 caught (Open p (resumes.Handle (handlers.Gather v))) m i = absurd i
-caught (Open p resumes.Undo) m i = absurd i
+caught (Open p (resumes.Handle handlers.Undo)) m i = absurd i
 
 module _ (s : State) (d : ℕ) (is : IsStack s d) (i inside : ℕ) (m : Marks) (at : CatcherIn s.frames i m inside) where
   abbrev under : List Frame

@@ -262,7 +262,7 @@ kind-of-case db code d e xs vs (resumes.Answers a) = refl
 kind-of-case db code d e xs vs resumes.List = refl
 kind-of-case db code d e xs vs (resumes.Handle (handlers.Catch c)) = refl
 kind-of-case db code d e xs vs (resumes.Handle (handlers.Gather v)) = refl
-kind-of-case db code d e xs vs resumes.Undo = refl
+kind-of-case db code d e xs vs (resumes.Handle handlers.Undo) = refl
 
 pub kinds-cases : (db : Database) (code : Goals) (e : Env) (links : List Link) (saved : List Cell) (fs : List Frame) → kinds (cases db code e links saved fs) ≡ kinds_of fs
 kinds-cases db code e links saved [] = refl

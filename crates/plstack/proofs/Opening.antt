@@ -80,7 +80,6 @@ module _ (s : State) (d : ℕ) (is : IsStack s d) (e : Env) (m : Marks) (mark : 
     resume-now (resumes.Answers x) a = (tt, turn_stays s.env.heap e.heap extends-now.values [] tt x.turn a.1)
     resume-now resumes.List a = tt
     resume-now (resumes.Handle x) a = (handled-same s.env.heap e.heap extends-now.values x a).0
-    resume-now resumes.Undo a = tt
 
     pub frame-now : IsOpen (goals_in s) e s.links s.saved point r (reverse s.frames)
     frame-now = record {
@@ -193,4 +192,4 @@ closed-open db s rest p (resumes.Handle (handlers.Gather v)) e = (
   (λ l is not. not (has-last IsGatherer s.frames rest (Open p (resumes.Handle (handlers.Gather v))) e tt)),
   λ is. cc,
 )
-closed-open db s rest p resumes.Undo e = (_, popped-cases db s rest (Open p resumes.Undo) e, has-last IsUndo s.frames rest (Open p resumes.Undo) e tt)
+closed-open db s rest p (resumes.Handle handlers.Undo) e = (_, popped-cases db s rest (Open p (resumes.Handle handlers.Undo)) e, has-last IsUndo s.frames rest (Open p (resumes.Handle handlers.Undo)) e tt)

@@ -6,7 +6,7 @@ use Rattle.plclause.specs.Clause.{Clause}
 use Rattle.plcells.specs.declared.cell.Cell.{Cell}
 use Rattle.plcells.specs.Store.{AreValues, value, renamed as renamed_heap, Preserves}
 use Rattle.plcells.proofs.Renaming.{Preserves-renamed}
-use Rattle.plsearch.specs.Types.{Element, Choice, Handle, Undo}
+use Rattle.plsearch.specs.Types.{Element, Choice, Handle}
 use Rattle.plsearch.specs.Moves.{resolve}
 use Rattle.plsearch.specs.Rows.{solved}
 use Rattle.plbuiltin.specs.Solution.{Solution}
@@ -54,7 +54,6 @@ module _ (e : Env) (t : Table) (is : IsEnv e) (table : IsTable t) (more : Extend
   resume-renamed vs (resumes.Answers a) i = ((values-renamed vs i.0).0, turn_stays e.heap (renamed_heap e.heap t) stays.values vs i.0 a.turn i.1)
   resume-renamed vs resumes.List i = tt
   resume-renamed vs (resumes.Handle x) i = (handled-same e.heap (renamed_heap e.heap t) stays.values x i).0
-  resume-renamed vs resumes.Undo i = tt
 
   module _ (code : Goals) (xs : List Portion) (items : AreItems code e.heap (length e.slots) xs) where
     goals-renamed : all_elements code (renamed e t) xs ≡ all_elements code e xs
@@ -77,4 +76,3 @@ module _ (e : Env) (t : Table) (is : IsEnv e) (table : IsTable t) (more : Extend
       case-renamed vs (resumes.Answers a) i = ap Choice (answers-renamed vs i.0 a.turn)
       case-renamed vs resumes.List i = ap (λ es. Choice (record { goals = es; variables = e.count } ∷ [])) goals-renamed
       case-renamed vs (resumes.Handle x) i = ap₂ (λ h es. Handle h (record { goals = es; variables = e.count })) (handled-same e.heap (renamed_heap e.heap t) stays.values x i).1 goals-renamed
-      case-renamed vs resumes.Undo i = ap (λ es. Handle Undo (record { goals = es; variables = e.count })) goals-renamed

@@ -17,11 +17,12 @@ use Rattle.plstack.specs.declared.frame.Frame.{Frame}
 use Rattle.plstack.specs.declared.frame.Frame.TheVariants.{Open}
 use Rattle.plstack.specs.Places.{Database, handled, case_of, depth_of}
 use Rattle.plstack.specs.Frames.{IsOpen, AreOlder, IsResume, AreFrames}
-use Rattle.plstack.specs.State.{State, IsStack, goals_in, goals_of, kinds_in, cases_of, IsFit, IsList, CountsUp, Retries, AtHandler, Leaves, Recovers, IsHandler, IsUndo}
+use Rattle.plstack.specs.State.{State, IsStack, goals_in, goals_of, kinds_in, cases_of, IsFit, IsList, CountsUp, Retries, AtHandler, Leaves, Recovers, Guards, IsHandler, IsUndo}
 use Rattle.plstack.specs.Cutting.{Settles}
 use Rattle.plstack.proofs.Frames.{items-take, cases-cut, AreFrames-cut, reverse-push}
 use Rattle.plstack.specs.Levels.{Choosing, kinds_of, FitsIn}
 use Rattle.plstack.proofs.Naming.{fits-env}
+use Rattle.plstack.proofs.Undoing.{guards-frame}
 use Rattle.plstack.proofs.Lists.{empty-list, no-elements}
 use Rattle.plstack.proofs.Stacks.{visiting, opened-cases, opened-state, counted, counted-cases, popped-cases, popped-frames, popped-seen, popped-stack, has-last}
 
@@ -121,8 +122,8 @@ module _ (s : State) (d : ℕ) (is : IsStack s d) (rest : List Frame) (p : Point
         ∙ ap (λ cs. Choice [] ∷ cs) (same-cases db was p.list ∙ back-cases s d is rest p resumes.List popped db);
   }
 
--- all is as it was where a handler was opened, which stays open
-module _ (s : State) (d : ℕ) (is : IsStack s d) (rest : List Frame) (p : Point) (x : Handler) (popped : s.frames ≡ rest ++ Open p (resumes.Handle x) ∷ []) where
+-- all is as it was where a handler of a ball or of what was kept was opened, which stays open
+module _ (s : State) (d : ℕ) (is : IsStack s d) (rest : List Frame) (p : Point) (x : Handler) (guards : Guards x) (popped : s.frames ≡ rest ++ Open p (resumes.Handle x) ∷ []) where
   abbrev none-visited : State
   none-visited = back s d is rest p (resumes.Handle x) popped
 
@@ -149,7 +150,7 @@ module _ (s : State) (d : ℕ) (is : IsStack s d) (rest : List Frame) (p : Point
 
   pub rewound-stack : IsStack rewound d
   rewound-stack =
-      let o = opened-state none-visited (d - 1) s.frames (Open p (resumes.Handle x)) popped (back-stack s d is rest p (resumes.Handle x) popped (λ i. i)) frame-then (λ i. i) tt in
+      let o = opened-state none-visited (d - 1) s.frames (Open p (resumes.Handle x)) popped (back-stack s d is rest p (resumes.Handle x) popped (guards-frame p x guards)) frame-then (guards-frame p x guards) tt in
       (o.0, omega (arith, o.1, back-depth s d is rest p (resumes.Handle x) popped))
 
   rewound-open : (db : Database) → cases_of db rewound ≡
@@ -169,17 +170,18 @@ module _ (s : State) (d : ℕ) (is : IsStack s d) (rest : List Frame) (p : Point
   rewound-at = record {
     below = λ db. cases_of db none-visited;
     cases = rewound-open;
+    guards = guards;
     there = the-frame.resume;
     list_there = let l = back-list s d is rest p (resumes.Handle x) popped in record { there = l.there; items = l.items };
     list_fits = subst (λ fs. FitsIn (drop 1 (kinds_of fs)) (goals_of none-visited p.list)) (sym (ap reverse popped ∙ reverse-push rest (Open p (resumes.Handle x)))) (back-fits s d is rest p (resumes.Handle x) popped);
-    has = has-last IsHandler s.frames rest (Open p (resumes.Handle x)) popped tt;
+    has = has-last IsHandler s.frames rest (Open p (resumes.Handle x)) popped guards;
   }
 
 tail_is : (x y : Case) (xs ys : List Case) → x ∷ xs ≡ y ∷ ys → xs ≡ ys
 tail_is x y xs ys e = cc
 
--- a list is visited in a choice in place of a handler
-module _ (s : State) (d : ℕ) (is : IsStack s d) (rest : List Frame) (p : Point) (x : Handler) (popped : s.frames ≡ rest ++ Open p (resumes.Handle x) ∷ []) (frames : List Frame) (up : CountsUp 1 (reverse rest) (reverse frames))
+-- a list is visited in a choice in place of such a handler
+module _ (s : State) (d : ℕ) (is : IsStack s d) (rest : List Frame) (p : Point) (x : Handler) (guards : Guards x) (popped : s.frames ≡ rest ++ Open p (resumes.Handle x) ∷ []) (frames : List Frame) (up : CountsUp 1 (reverse rest) (reverse frames))
     (list : Continuation) (l : IsList s list) (f : FitsIn (Choosing ∷ drop 1 (kinds_in s)) (goals_of s list)) where
   abbrev without : State
   without = record { basis = s.basis; env = s.env; links = s.links; saved = s.saved; frames = rest; goals = list }
@@ -187,7 +189,7 @@ module _ (s : State) (d : ℕ) (is : IsStack s d) (rest : List Frame) (p : Point
   pub recovered-stack : IsStack (record s { frames = frames; goals = list }) d
   recovered-stack =
       let q = popped-frames s d rest (Open p (resumes.Handle x)) popped is in
-      let u = counted 1 (record s { frames = rest; goals = alone 0 }) (d - 1) frames up (popped-stack s d rest (Open p (resumes.Handle x)) popped is (λ i. i)) in
+      let u = counted 1 (record s { frames = rest; goals = alone 0 }) (d - 1) frames up (popped-stack s d rest (Open p (resumes.Handle x)) popped is (guards-frame p x guards)) in
       let same : Choosing ∷ drop 1 (kinds_in s) ≡ kinds_of (reverse frames) = ap (λ fs. Choosing ∷ drop 1 (kinds_of fs)) (ap reverse popped ∙ reverse-push rest (Open p (resumes.Handle x))) ∙ sym up.kinds in
       let v = visiting (record s { frames = frames; goals = alone 0 }) (d - 1 + 1) list u (record { there = l.there; items = l.items }) (subst (λ ks. FitsIn ks (goals_of s list)) same f) in
       (v.0, omega (arith, v.1, q.2))
@@ -200,13 +202,13 @@ module _ (s : State) (d : ℕ) (is : IsStack s d) (rest : List Frame) (p : Point
     place = refl;
   }
 
--- a list is visited where a handler was taken off
-module _ (s : State) (d : ℕ) (is : IsStack s d) (rest : List Frame) (p : Point) (x : Handler) (popped : s.frames ≡ rest ++ Open p (resumes.Handle x) ∷ []) (list : Continuation) (l : IsList s list) (f : FitsIn (drop 1 (kinds_in s)) (goals_of s list)) where
+-- a list is visited where such a handler was taken off
+module _ (s : State) (d : ℕ) (is : IsStack s d) (rest : List Frame) (p : Point) (x : Handler) (guards : Guards x) (popped : s.frames ≡ rest ++ Open p (resumes.Handle x) ∷ []) (list : Continuation) (l : IsList s list) (f : FitsIn (drop 1 (kinds_in s)) (goals_of s list)) where
   pub left-stack : IsStack (record s { frames = rest; goals = list }) (d - 1)
   left-stack =
       let q = popped-frames s d rest (Open p (resumes.Handle x)) popped is in
       let same : drop 1 (kinds_in s) ≡ kinds_of (reverse rest) = ap (λ fs. drop 1 (kinds_of fs)) (ap reverse popped ∙ reverse-push rest (Open p (resumes.Handle x))) in
-      let v = visiting (record s { frames = rest; goals = alone 0 }) (d - 1) list (popped-stack s d rest (Open p (resumes.Handle x)) popped is (λ i. i)) (record { there = l.there; items = l.items }) (subst (λ ks. FitsIn ks (goals_of s list)) same f) in
+      let v = visiting (record s { frames = rest; goals = alone 0 }) (d - 1) list (popped-stack s d rest (Open p (resumes.Handle x)) popped is (guards-frame p x guards)) (record { there = l.there; items = l.items }) (subst (λ ks. FitsIn ks (goals_of s list)) same f) in
       (v.0, omega (arith, q.2))
 
   pub leaves : Leaves s (record s { frames = rest; goals = list }) list

@@ -20,6 +20,7 @@ use Rattle.plstack.specs.declared.frame.Use.{Use}
 use Rattle.plstack.specs.declared.frame.Spot.{Spot}
 use Rattle.plstack.specs.declared.frame.Spot.TheVariants as spots
 use Rattle.plstack.specs.declared.frame.Resume.{Resume}
+use Rattle.plstack.specs.declared.frame.Handler.TheVariants as handlers
 use Rattle.plstack.specs.declared.frame.Resume.TheVariants as resumes
 use Rattle.plstack.specs.declared.frame.Frame.{Frame}
 use Rattle.plstack.specs.declared.frame.Frame.TheVariants.{Plain, Open}
@@ -46,7 +47,6 @@ frame-more a b le (Open p (resumes.Walk w)) s = spot-more a b le w.spot s
 frame-more a b le (Open p (resumes.Answers x)) s = tt
 frame-more a b le (Open p resumes.List) s = tt
 frame-more a b le (Open p (resumes.Handle x)) s = tt
-frame-more a b le (Open p resumes.Undo) s = tt
 
 counting-more : (k : ℕ) (a b : View) → k ≤ a.count → IsShown a b → IsShown (counting k a) (counting k b)
 counting-more k a b low le = record { place = le.place; count = le_refl _; own = λ some. le.own (omega (arith, some, low)) }
@@ -61,8 +61,9 @@ behind-more (Open p (resumes.Clauses c)) starts a b P le more s = more starts a 
 behind-more (Open p (resumes.Walk w)) starts a b P le more s = more starts a b le s
 behind-more (Open p (resumes.Answers x)) starts a b P le more s = more starts a b le s
 behind-more (Open p resumes.List) starts a b P le more s = more starts a b le s
-behind-more (Open p (resumes.Handle x)) starts a b P le more s = more starts a b le s
-behind-more (Open p resumes.Undo) starts a b P le more s = since-more starts a b P le more s
+behind-more (Open p (resumes.Handle (handlers.Catch c))) starts a b P le more s = more starts a b le s
+behind-more (Open p (resumes.Handle (handlers.Gather v))) starts a b P le more s = more starts a b le s
+behind-more (Open p (resumes.Handle handlers.Undo)) starts a b P le more s = since-more starts a b P le more s
 
 -- a later view
 pub seen-more : (starts : List ℕ) (a b : View) → IsShown a b → (fs : List Frame) → AreSeen starts a fs → AreSeen starts b fs
@@ -77,8 +78,9 @@ behind-stays (Open p (resumes.Clauses c)) starts latest P not s = s
 behind-stays (Open p (resumes.Walk w)) starts latest P not s = s
 behind-stays (Open p (resumes.Answers x)) starts latest P not s = s
 behind-stays (Open p resumes.List) starts latest P not s = s
-behind-stays (Open p (resumes.Handle x)) starts latest P not s = s
-behind-stays (Open p resumes.Undo) starts latest P not s = absurd (not tt)
+behind-stays (Open p (resumes.Handle (handlers.Catch c))) starts latest P not s = s
+behind-stays (Open p (resumes.Handle (handlers.Gather v))) starts latest P not s = s
+behind-stays (Open p (resumes.Handle handlers.Undo)) starts latest P not s = absurd (not tt)
 
 pub stays-behind : (f : Frame) (starts : List ℕ) (latest : View) (P : List ℕ → View → Type 0) → (IsUndo f → ⊥) → BehindFrame f starts latest P → P starts latest
 stays-behind (Plain k) starts latest P not s = s
@@ -86,8 +88,9 @@ stays-behind (Open p (resumes.Clauses c)) starts latest P not s = s
 stays-behind (Open p (resumes.Walk w)) starts latest P not s = s
 stays-behind (Open p (resumes.Answers x)) starts latest P not s = s
 stays-behind (Open p resumes.List) starts latest P not s = s
-stays-behind (Open p (resumes.Handle x)) starts latest P not s = s
-stays-behind (Open p resumes.Undo) starts latest P not s = absurd (not tt)
+stays-behind (Open p (resumes.Handle (handlers.Catch c))) starts latest P not s = s
+stays-behind (Open p (resumes.Handle (handlers.Gather v))) starts latest P not s = s
+stays-behind (Open p (resumes.Handle handlers.Undo)) starts latest P not s = absurd (not tt)
 
 -- the first start, and what is seen behind its transaction
 pub record SeenSince (starts : List ℕ) (latest : View) (fs : List Frame) : Type 0 where
@@ -109,8 +112,9 @@ seen-append (Open p (resumes.Clauses c) ∷ xs) ys starts latest same s = seen-a
 seen-append (Open p (resumes.Walk w) ∷ xs) ys starts latest same s = seen-append xs ys starts latest same s.1
 seen-append (Open p (resumes.Answers x) ∷ xs) ys starts latest same s = seen-append xs ys starts latest same s.1
 seen-append (Open p resumes.List ∷ xs) ys starts latest same s = seen-append xs ys starts latest same s.1
-seen-append (Open p (resumes.Handle x) ∷ xs) ys starts latest same s = seen-append xs ys starts latest same s.1
-seen-append (Open p resumes.Undo ∷ xs) ys starts latest same s = absurd (omega (arith, ap length same, undoings-append xs ys))
+seen-append (Open p (resumes.Handle (handlers.Catch c)) ∷ xs) ys starts latest same s = seen-append xs ys starts latest same s.1
+seen-append (Open p (resumes.Handle (handlers.Gather v)) ∷ xs) ys starts latest same s = seen-append xs ys starts latest same s.1
+seen-append (Open p (resumes.Handle handlers.Undo) ∷ xs) ys starts latest same s = absurd (omega (arith, ap length same, undoings-append xs ys))
 
 -- and where one does
 pub seen-ended : (xs ys : List Frame) (starts : List ℕ) (latest : View) (l : ℕ) → undoings (kinds_of (xs ++ ys)) ≡ l ∷ undoings (kinds_of ys) → AreSeen starts latest (xs ++ ys) → SeenSince starts latest ys
@@ -120,8 +124,9 @@ seen-ended (Open p (resumes.Clauses c) ∷ xs) ys starts latest l one s = seen-e
 seen-ended (Open p (resumes.Walk w) ∷ xs) ys starts latest l one s = seen-ended xs ys starts latest l one s.1
 seen-ended (Open p (resumes.Answers x) ∷ xs) ys starts latest l one s = seen-ended xs ys starts latest l one s.1
 seen-ended (Open p resumes.List ∷ xs) ys starts latest l one s = seen-ended xs ys starts latest l one s.1
-seen-ended (Open p (resumes.Handle x) ∷ xs) ys starts latest l one s = seen-ended xs ys starts latest l one s.1
-seen-ended (Open p resumes.Undo ∷ xs) ys starts latest l one s =
+seen-ended (Open p (resumes.Handle (handlers.Catch c)) ∷ xs) ys starts latest l one s = seen-ended xs ys starts latest l one s.1
+seen-ended (Open p (resumes.Handle (handlers.Gather v)) ∷ xs) ys starts latest l one s = seen-ended xs ys starts latest l one s.1
+seen-ended (Open p (resumes.Handle handlers.Undo) ∷ xs) ys starts latest l one s =
     let b = seen-since starts latest (xs ++ ys) s.1 in
     record { start = b.start; older = b.older; is = b.is; low = b.low; seen = seen-append xs ys b.older (counting b.start latest) (sym (ap (drop 1) one)) b.seen }
 
@@ -168,7 +173,6 @@ module _ (db : Database) (own : List Update) where
   case-same latest code d e xs vs (resumes.Answers a) same s = refl
   case-same latest code d e xs vs resumes.List same s = refl
   case-same latest code d e xs vs (resumes.Handle x) same s = refl
-  case-same latest code d e xs vs resumes.Undo same s = refl
 
   so-far-counting : (k : ℕ) (latest : View) → k ≤ latest.count → IsOwnSoFar latest db own → IsOwnSoFar (counting k latest) db own
   so-far-counting k latest le same = so-far db own (counting k latest) latest (record { place = le_refl _; count = le; own = λ some. refl }) same
@@ -181,8 +185,9 @@ module _ (db : Database) (own : List Update) where
     since-same fs all (Open p (resumes.Walk w)) starts latest same s = all starts latest same s
     since-same fs all (Open p (resumes.Answers a)) starts latest same s = all starts latest same s
     since-same fs all (Open p resumes.List) starts latest same s = all starts latest same s
-    since-same fs all (Open p (resumes.Handle x)) starts latest same s = all starts latest same s
-    since-same fs all (Open p resumes.Undo) starts latest same s =
+    since-same fs all (Open p (resumes.Handle (handlers.Catch c))) starts latest same s = all starts latest same s
+    since-same fs all (Open p (resumes.Handle (handlers.Gather v))) starts latest same s = all starts latest same s
+    since-same fs all (Open p (resumes.Handle handlers.Undo)) starts latest same s =
         let b = seen-since starts latest fs s in
         all b.older (counting b.start latest) (so-far-counting b.start latest b.low same) b.seen
 

@@ -9,6 +9,7 @@ use Rattle.pllinks.specs.declared.link.Continuation.{Continuation}
 use Rattle.pllinks.specs.Links.{alone}
 use Rattle.plstack.specs.declared.frame.Marks.{Marks}
 use Rattle.plstack.specs.declared.frame.Point.{Point}
+use Rattle.plstack.specs.declared.frame.Handler.TheVariants as handlers
 use Rattle.plstack.specs.declared.frame.Resume.TheVariants as resumes
 use Rattle.plstack.specs.declared.frame.Frame.{Frame}
 use Rattle.plstack.specs.declared.frame.Frame.TheVariants.{Open}
@@ -32,7 +33,7 @@ module _ (s : State) (d : ℕ) (is : IsStack s d) (view : View) (shown : IsShown
     (outer : List Frame) (first : CountsUp 1 (reverse s.frames) (reverse outer))
     (e : Env) (m : Marks) (mark : IsMark m.env e) (now : cut m.env e ≡ e) (same : e ≡ bounded (length s.env.heap.cells) (length s.env.slots) s.env)
     (links : m.links ≡ length s.links) (saved : m.saved ≡ length s.saved)
-    (undo : List Frame) (pushed : undo ≡ outer ++ Open (record { marks = m; list = list }) resumes.Undo ∷ [])
+    (undo : List Frame) (pushed : undo ≡ outer ++ Open (record { marks = m; list = list }) (resumes.Handle handlers.Undo) ∷ [])
     (inner : List Frame) (second : CountsUp 1 (reverse undo) (reverse inner))
     (starts : List ℕ) (more : starts ≡ s.basis.starts ++ view.count ∷ []) where
   abbrev within : State
@@ -59,28 +60,28 @@ module _ (s : State) (d : ℕ) (is : IsStack s d) (view : View) (shown : IsShown
   undo-seen : AreSeen (reverse starts) view (reverse undo)
   undo-seen =
       let later = seen-more (reverse s.basis.starts) s.basis.latest (counting view.count view) counts-all (reverse outer) within-stack.0.seen in
-      let behind : AreSeen (view.count ∷ reverse s.basis.starts) view (Open point resumes.Undo ∷ reverse outer) = (tt, (le_refl _, later)) in
+      let behind : AreSeen (view.count ∷ reverse s.basis.starts) view (Open point (resumes.Handle handlers.Undo) ∷ reverse outer) = (tt, (le_refl _, later)) in
       subst (λ ss. AreSeen ss view (reverse undo)) (sym (ap reverse more ∙ reverse-append s.basis.starts (view.count ∷ [])))
-      (subst (AreSeen (view.count ∷ reverse s.basis.starts) view) (sym (ap reverse pushed ∙ reverse-push outer (Open point resumes.Undo))) behind)
+      (subst (AreSeen (view.count ∷ reverse s.basis.starts) view) (sym (ap reverse pushed ∙ reverse-push outer (Open point (resumes.Handle handlers.Undo)))) behind)
 
   abbrev then : State
   then = record { basis = record { code = s.basis.code; latest = view; starts = starts }; env = e; links = s.links; saved = s.saved; frames = undo; goals = alone 0 }
 
   then-stack : IsStack then (d + 2)
   then-stack =
-      let frame = frame-now within (d + 1) within-stack e m mark now same links saved list resumes.Undo within-list within-fits tt refl in
+      let frame = frame-now within (d + 1) within-stack e m mark now same links saved list (resumes.Handle handlers.Undo) within-list within-fits tt refl in
       let before = framed-rest in (
         record {
           env = before.env;
           names = before.names;
           none = is.0.none;
           chain = is.0.chain;
-          frames = subst (AreFrames (goals_in s) e s.links s.saved) (sym (ap reverse pushed ∙ reverse-push outer (Open point resumes.Undo))) (frame, before.frames);
+          frames = subst (AreFrames (goals_in s) e s.links s.saved) (sym (ap reverse pushed ∙ reverse-push outer (Open point (resumes.Handle handlers.Undo)))) (frame, before.frames);
           seen = undo-seen;
           goals = empty-list (goals_in s) is.0.none e s.links;
           fits = inl (no-elements (goals_in s) is.0.none e s.links);
         },
-        omega (arith, within-stack.1, ap depth_of (ap reverse pushed ∙ reverse-push outer (Open point resumes.Undo))),
+        omega (arith, within-stack.1, ap depth_of (ap reverse pushed ∙ reverse-push outer (Open point (resumes.Handle handlers.Undo)))),
       )
     where
       framed-rest : IsState (record within { env = e })
@@ -94,7 +95,7 @@ module _ (s : State) (d : ℕ) (is : IsStack s d) (view : View) (shown : IsShown
   unfolding cases_of
   transaction-cases db =
       second.cases db (goals_in s) e s.links s.saved
-      ∙ ap (λ cs. Choice [] ∷ cs) (framed-cases within (d + 1) within-stack e m mark now same links saved list resumes.Undo within-list within-fits tt refl undo pushed db)
+      ∙ ap (λ cs. Choice [] ∷ cs) (framed-cases within (d + 1) within-stack e m mark now same links saved list (resumes.Handle handlers.Undo) within-list within-fits tt refl undo pushed db)
       ∙ ap (λ cs. Choice [] ∷ Handle Undo (record { goals = goals_of (record within { env = e; frames = undo }) list; variables = e.count }) ∷ cs) (counted-cases 1 db s outer first)
 
   beginning-cases : (db : Database) → cases_of db (beginning view s) ≡ cases_of db s
@@ -103,8 +104,8 @@ module _ (s : State) (d : ℕ) (is : IsStack s d) (view : View) (shown : IsShown
 
   pub transaction-opens : Opens (beginning view s) (record { basis = record { code = s.basis.code; latest = view; starts = starts }; env = e; links = s.links; saved = s.saved; frames = inner; goals = alone 0 }) (Choice [] ∷ undo_of s list ∷ Choice [] ∷ [])
   transaction-opens =
-      let k = framed-keeps within (d + 1) within-stack e m mark now same links saved list resumes.Undo within-list within-fits tt refl undo pushed undo in
-      let k' = framed-keeps within (d + 1) within-stack e m mark now same links saved list resumes.Undo within-list within-fits tt refl undo pushed inner in
+      let k = framed-keeps within (d + 1) within-stack e m mark now same links saved list (resumes.Handle handlers.Undo) within-list within-fits tt refl undo pushed undo in
+      let k' = framed-keeps within (d + 1) within-stack e m mark now same links saved list (resumes.Handle handlers.Undo) within-list within-fits tt refl undo pushed inner in
       record {
         cases = λ db.
             transaction-cases db
@@ -114,14 +115,14 @@ module _ (s : State) (d : ℕ) (is : IsStack s d) (view : View) (shown : IsShown
         lists = λ l i. let r = k'.lists l (record { there = i.there; items = i.items }) in (record { there = r.0.there; items = r.0.items }, r.1);
         count = k.count;
         basis = ap (λ ss. record { code = s.basis.code; latest = view; starts = ss }) more;
-        walks = second.walks ∙ pushed-walks undo outer (Open point resumes.Undo) pushed ∙ first.walks;
+        walks = second.walks ∙ pushed-walks undo outer (Open point (resumes.Handle handlers.Undo)) pushed ∙ first.walks;
         goals = refl;
       }
 
 -- the case Undo was the innermost one, and is closed
-module _ (s : State) (d : ℕ) (is : IsStack s d) (rest : List Frame) (p : Point) (popped : s.frames ≡ rest ++ Open p resumes.Undo ∷ []) where
+module _ (s : State) (d : ℕ) (is : IsStack s d) (rest : List Frame) (p : Point) (popped : s.frames ≡ rest ++ Open p (resumes.Handle handlers.Undo) ∷ []) where
   since : SeenSince (reverse s.basis.starts) s.basis.latest (reverse rest)
-  since = seen-since (reverse s.basis.starts) s.basis.latest (reverse rest) (popped-frame s d rest (Open p resumes.Undo) popped is).1
+  since = seen-since (reverse s.basis.starts) s.basis.latest (reverse rest) (popped-frame s d rest (Open p (resumes.Handle handlers.Undo)) popped is).1
 
   module _ (start : ℕ) (older : List ℕ) (starts : s.basis.starts ≡ older ++ start ∷ []) where
     pub undone-ends : Ends s.basis (record { code = s.basis.code; latest = counting start s.basis.latest; starts = older })
@@ -129,7 +130,7 @@ module _ (s : State) (d : ℕ) (is : IsStack s d) (rest : List Frame) (p : Point
 
     pub undone-stack : IsStack (record { basis = record { code = s.basis.code; latest = counting start s.basis.latest; starts = older }; env = s.env; links = s.links; saved = s.saved; frames = rest; goals = alone 0 }) (d - 1)
     undone-stack =
-        let q = popped-frames s d rest (Open p resumes.Undo) popped is in (
+        let q = popped-frames s d rest (Open p (resumes.Handle handlers.Undo)) popped is in (
           record {
             env = is.0.env;
             names = is.0.names;

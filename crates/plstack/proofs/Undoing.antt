@@ -9,13 +9,18 @@ use Rattle.plsearch.specs.Lists.{levels}
 use Rattle.plsearch.specs.Engine.{deeper}
 use Rattle.plsearch.specs.Handlers.{has}
 use Rattle.plstack.specs.declared.frame.Point.{Point}
+use Rattle.plstack.specs.declared.frame.Handler.{Handler}
+use Rattle.plstack.specs.declared.frame.Handler.TheVariants as handlers
 use Rattle.plstack.specs.declared.frame.Resume.{Resume}
 use Rattle.plstack.specs.declared.frame.Resume.TheVariants as resumes
+use Rattle.plstack.specs.declared.frame.Closed.{Closed}
+use Rattle.plstack.specs.declared.frame.Closed.TheVariants as closings
 use Rattle.plstack.specs.declared.frame.Frame.{Frame}
 use Rattle.plstack.specs.declared.frame.Frame.TheVariants.{Plain, Open}
 use Rattle.plstack.specs.Places.{depth_of}
 use Rattle.plstack.specs.Levels.{Sort, Choosing, Guarding, Undoing, sort_of, kinds, choices, kinds_of, undoings, top_behind, Fits, transacts, FitsIn, Precedes, AreNamed}
-use Rattle.plstack.specs.State.{IsUndo}
+use Rattle.plstack.specs.State.{Guards, IsUndo}
+use Rattle.plstack.specs.Opening.{closing}
 use Rattle.plstack.specs.Cutting.{IsChoice}
 use Rattle.plstack.proofs.Naming.{fits-top, kinds-length}
 
@@ -38,33 +43,60 @@ undoings-frame (Open p (resumes.Clauses c)) fs not = refl
 undoings-frame (Open p (resumes.Walk w)) fs not = refl
 undoings-frame (Open p (resumes.Answers a)) fs not = refl
 undoings-frame (Open p resumes.List) fs not = refl
-undoings-frame (Open p (resumes.Handle x)) fs not = refl
-undoings-frame (Open p resumes.Undo) fs not = absurd (not tt)
+undoings-frame (Open p (resumes.Handle (handlers.Catch c))) fs not = refl
+undoings-frame (Open p (resumes.Handle (handlers.Gather v))) fs not = refl
+undoings-frame (Open p (resumes.Handle handlers.Undo)) fs not = absurd (not tt)
 
 pub stays-frame : (p : Point) (r : Resume) → (sort_of r ≡ Undoing → ⊥) → IsUndo (Open p r) → ⊥
 stays-frame p (resumes.Clauses c) not i = i
 stays-frame p (resumes.Walk w) not i = i
 stays-frame p (resumes.Answers a) not i = i
 stays-frame p resumes.List not i = i
-stays-frame p (resumes.Handle x) not i = i
-stays-frame p resumes.Undo not i = not refl
+stays-frame p (resumes.Handle (handlers.Catch c)) not i = i
+stays-frame p (resumes.Handle (handlers.Gather v)) not i = i
+stays-frame p (resumes.Handle handlers.Undo) not i = not refl
 
-pub not-undo : (p : Point) (r : Resume) → (r ≡ resumes.Undo → ⊥) → IsUndo (Open p r) → ⊥
-not-undo p (resumes.Clauses c) not i = i
-not-undo p (resumes.Walk w) not i = i
-not-undo p (resumes.Answers a) not i = i
-not-undo p resumes.List not i = i
-not-undo p (resumes.Handle x) not i = i
-not-undo p resumes.Undo not i = not refl
+-- the end of a transaction is closed as such
+undo-closing : (p : Point) (r : Resume) → IsUndo (Open p r) → closing r ≡ closings.Transaction
+undo-closing p (resumes.Clauses c) i = absurd i
+undo-closing p (resumes.Walk w) i = absurd i
+undo-closing p (resumes.Answers a) i = absurd i
+undo-closing p resumes.List i = absurd i
+undo-closing p (resumes.Handle (handlers.Catch c)) i = absurd i
+undo-closing p (resumes.Handle (handlers.Gather v)) i = absurd i
+undo-closing p (resumes.Handle handlers.Undo) i = refl
 
+pub not-undo : (p : Point) (r : Resume) (k : Closed) → k ≡ closing r → (k ≡ closings.Transaction → ⊥) → IsUndo (Open p r) → ⊥
+not-undo p r k is not i = not (is ∙ undo-closing p r i)
+
+pub closing-undo : (r : Resume) → closing r ≡ closings.Transaction → r ≡ resumes.Handle handlers.Undo
+closing-undo (resumes.Clauses c) is = absurd (cc)
+closing-undo (resumes.Walk w) is = absurd (cc)
+closing-undo (resumes.Answers a) is = absurd (cc)
+closing-undo resumes.List is = absurd (cc)
+closing-undo (resumes.Handle (handlers.Catch c)) is = absurd (cc)
+closing-undo (resumes.Handle (handlers.Gather v)) is = absurd (cc)
+closing-undo (resumes.Handle handlers.Undo) is = refl
+
+-- a handler of a ball or of what was kept ends no transaction
+pub guards_stays : (x : Handler) → Guards x → sort_of (resumes.Handle x) ≡ Undoing → ⊥
+guards_stays (handlers.Catch c) guards is = cc
+guards_stays (handlers.Gather v) guards is = cc
+guards_stays handlers.Undo guards is = guards
+
+pub guards-frame : (p : Point) (x : Handler) → Guards x → IsUndo (Open p (resumes.Handle x)) → ⊥
+guards-frame p x guards = stays-frame p (resumes.Handle x) (guards_stays x guards)
+
+-- nor does a choice
 pub choice-stays : (f : Frame) → IsChoice f → IsUndo f → ⊥
 choice-stays (Plain n) choice i = i
 choice-stays (Open p (resumes.Clauses c)) choice i = i
 choice-stays (Open p (resumes.Walk w)) choice i = i
 choice-stays (Open p (resumes.Answers a)) choice i = i
 choice-stays (Open p resumes.List) choice i = i
-choice-stays (Open p (resumes.Handle x)) choice i = i
-choice-stays (Open p resumes.Undo) choice i = absurd (cc)
+choice-stays (Open p (resumes.Handle (handlers.Catch c))) choice i = i
+choice-stays (Open p (resumes.Handle (handlers.Gather v))) choice i = i
+choice-stays (Open p (resumes.Handle handlers.Undo)) choice i = absurd (cc)
 
 depth-append : (xs ys : List Frame) → depth_of ys ≤ depth_of (xs ++ ys)
 depth-append [] ys = le_refl _
@@ -85,8 +117,9 @@ undoings-append (Open p (resumes.Clauses c) ∷ xs) ys = undoings-append xs ys
 undoings-append (Open p (resumes.Walk w) ∷ xs) ys = undoings-append xs ys
 undoings-append (Open p (resumes.Answers a) ∷ xs) ys = undoings-append xs ys
 undoings-append (Open p resumes.List ∷ xs) ys = undoings-append xs ys
-undoings-append (Open p (resumes.Handle x) ∷ xs) ys = undoings-append xs ys
-undoings-append (Open p resumes.Undo ∷ xs) ys = omega (arith, undoings-append xs ys)
+undoings-append (Open p (resumes.Handle (handlers.Catch c)) ∷ xs) ys = undoings-append xs ys
+undoings-append (Open p (resumes.Handle (handlers.Gather v)) ∷ xs) ys = undoings-append xs ys
+undoings-append (Open p (resumes.Handle handlers.Undo) ∷ xs) ys = omega (arith, undoings-append xs ys)
 
 -- where they are all below some frames, no transaction ends inside of these
 none-above : (xs zs : List Frame) → AllByRecursion (λ k. k < depth_of zs) (undoings (kinds_of (xs ++ zs))) → undoings (kinds_of zs) ≡ undoings (kinds_of (xs ++ zs))
@@ -98,8 +131,9 @@ none-above (Open p (resumes.Clauses c) ∷ xs) zs low = none-above xs zs low
 none-above (Open p (resumes.Walk w) ∷ xs) zs low = none-above xs zs low
 none-above (Open p (resumes.Answers a) ∷ xs) zs low = none-above xs zs low
 none-above (Open p resumes.List ∷ xs) zs low = none-above xs zs low
-none-above (Open p (resumes.Handle x) ∷ xs) zs low = none-above xs zs low
-none-above (Open p resumes.Undo ∷ xs) zs low = absurd (omega (arith, low.0, kinds-length (xs ++ zs), depth-append xs zs))
+none-above (Open p (resumes.Handle (handlers.Catch c)) ∷ xs) zs low = none-above xs zs low
+none-above (Open p (resumes.Handle (handlers.Gather v)) ∷ xs) zs low = none-above xs zs low
+none-above (Open p (resumes.Handle handlers.Undo) ∷ xs) zs low = absurd (omega (arith, low.0, kinds-length (xs ++ zs), depth-append xs zs))
 
 -- the innermost of them is inside of some frames, or it is the innermost of theirs
 first-above : (xs zs : List Frame) (l : ℕ) (ls : List ℕ) → undoings (kinds_of (xs ++ zs)) ≡ l ∷ ls → (depth_of zs ≤ l) ⊎ (undoings (kinds_of zs) ≡ l ∷ ls)
@@ -109,8 +143,9 @@ first-above (Open p (resumes.Clauses c) ∷ xs) zs l ls is = first-above xs zs l
 first-above (Open p (resumes.Walk w) ∷ xs) zs l ls is = first-above xs zs l ls is
 first-above (Open p (resumes.Answers a) ∷ xs) zs l ls is = first-above xs zs l ls is
 first-above (Open p resumes.List ∷ xs) zs l ls is = first-above xs zs l ls is
-first-above (Open p (resumes.Handle x) ∷ xs) zs l ls is = first-above xs zs l ls is
-first-above (Open p resumes.Undo ∷ xs) zs l ls is =
+first-above (Open p (resumes.Handle (handlers.Catch c)) ∷ xs) zs l ls is = first-above xs zs l ls is
+first-above (Open p (resumes.Handle (handlers.Gather v)) ∷ xs) zs l ls is = first-above xs zs l ls is
+first-above (Open p (resumes.Handle handlers.Undo) ∷ xs) zs l ls is =
     let e : length (kinds_of (xs ++ zs)) ≡ l = ap (λ ks. get_or ks 0 0) is in
     inl (omega (arith, e, kinds-length (xs ++ zs), depth-append xs zs))
 
@@ -122,8 +157,9 @@ one-above (Open p (resumes.Clauses c) ∷ xs) zs l ls is high low = one-above xs
 one-above (Open p (resumes.Walk w) ∷ xs) zs l ls is high low = one-above xs zs l ls is high low
 one-above (Open p (resumes.Answers a) ∷ xs) zs l ls is high low = one-above xs zs l ls is high low
 one-above (Open p resumes.List ∷ xs) zs l ls is high low = one-above xs zs l ls is high low
-one-above (Open p (resumes.Handle x) ∷ xs) zs l ls is high low = one-above xs zs l ls is high low
-one-above (Open p resumes.Undo ∷ xs) zs l ls is high low =
+one-above (Open p (resumes.Handle (handlers.Catch c)) ∷ xs) zs l ls is high low = one-above xs zs l ls is high low
+one-above (Open p (resumes.Handle (handlers.Gather v)) ∷ xs) zs l ls is high low = one-above xs zs l ls is high low
+one-above (Open p (resumes.Handle handlers.Undo) ∷ xs) zs l ls is high low =
     let rest : undoings (kinds_of (xs ++ zs)) ≡ ls = ap (drop 1) is in
     none-above xs zs (subst (AllByRecursion (λ k. k < depth_of zs)) (sym rest) low) ∙ rest
 

@@ -21,8 +21,14 @@ use Rattle.plstack.specs.declared.first.First.TheVariants as firsts
 use Rattle.plstack.specs.Levels.{FitsIn}
 use Rattle.plstack.specs.State.{State, goals_in, goals_of, kinds_in, IsList}
 
--- goals that begin with a conjunction, and the list in which its two goals stand in its place
-pub record AtBoth (s : State) (es : List Element) (next : Continuation) : Type 0 where
+-- the step at a place, which is not the end of a sequence
+pub record IsStep (c : Text) (place : ℕ) (x : Step) : Type 0 where
+  pub is : x ≡ step_at c place
+  pub runs : Runs c place x
+
+-- goals that begin with a conjunction, the list in which its two goals stand in its place, and the step that the run of that begins with
+pub record AtBoth (s : State) (es : List Element) (next : Continuation) (x : Step) : Type 0 where
+  pub step : IsStep s.basis.code.text next.run.position x
   pub level : ℕ
   pub left : Tree
   pub right : Tree
@@ -68,15 +74,10 @@ pub record AtMarker (s : State) (es : List Element) (kind : MarkerKind) (level :
 -- what stands first in some goals
 abbrev pub Begins : State → List Element → First → Type 0
 Begins s es firsts.Nothing = es ≡ []
-Begins s es (firsts.Both next) = AtBoth s es next
+Begins s es (firsts.Both next x) = AtBoth s es next x
 Begins s es (firsts.Step r x rest) = AtStep s es r x rest
 Begins s es (firsts.Goal k v rest) = AtGoal s es k v rest
 Begins s es (firsts.Marker m l rest) = AtMarker s es m l rest
 
 abbrev pub IsFirst : State → First → Type 0
 IsFirst s = Begins s (goals_of s s.goals)
-
--- the step at a place, which is not the end of a sequence
-pub record IsStep (c : Text) (place : ℕ) (x : Step) : Type 0 where
-  pub is : x ≡ step_at c place
-  pub runs : Runs c place x

@@ -52,7 +52,6 @@ IsSeen latest (resumes.Walk w) = IsSpotSeen latest w.spot
 IsSeen latest (resumes.Answers a) = ⊤
 IsSeen latest resumes.List = ⊤
 IsSeen latest (resumes.Handle x) = ⊤
-IsSeen latest resumes.Undo = ⊤
 
 abbrev pub IsFrameSeen : View → Frame → Type 0
 IsFrameSeen latest (Plain k) = ⊤
@@ -68,8 +67,9 @@ Behind (resumes.Clauses c) starts latest Are = Are starts latest
 Behind (resumes.Walk w) starts latest Are = Are starts latest
 Behind (resumes.Answers a) starts latest Are = Are starts latest
 Behind resumes.List starts latest Are = Are starts latest
-Behind (resumes.Handle x) starts latest Are = Are starts latest
-Behind resumes.Undo starts latest Are = Since starts latest Are
+Behind (resumes.Handle (handlers.Catch c)) starts latest Are = Are starts latest
+Behind (resumes.Handle (handlers.Gather v)) starts latest Are = Are starts latest
+Behind (resumes.Handle handlers.Undo) starts latest Are = Since starts latest Are
 
 abbrev pub BehindFrame : Frame → List ℕ → View → (List ℕ → View → Type 0) → Type 0
 BehindFrame (Plain k) starts latest Are = Are starts latest
@@ -85,6 +85,7 @@ AreSeen starts latest (f ∷ fs) = IsFrameSeen latest f × BehindFrame f starts 
 abbrev pub IsHandled : Store → Handler → Type 0
 IsHandled h (handlers.Catch c) = IsValue h c.catcher × IsValue h c.recovery
 IsHandled h (handlers.Gather v) = IsValue h v
+IsHandled h handlers.Undo = ⊤
 
 -- the values of a case are those of the heap that it comes back to
 abbrev pub IsResume : Store → List Cell → Resume → Type 0
@@ -93,7 +94,6 @@ IsResume h vs (resumes.Walk w) = IsValue h w.goal
 IsResume h vs (resumes.Answers a) = AreValues h vs × IsRemaining h vs a.turn
 IsResume h vs resumes.List = ⊤
 IsResume h vs (resumes.Handle x) = IsHandled h x
-IsResume h vs resumes.Undo = ⊤
 
 -- a choice point or handler: it reads what it comes back to at its marks, the frames behind it are older, and its list fits in them
 pub record IsOpen (code : Goals) (e : Env) (links : List Link) (saved : List Cell) (p : Point) (r : Resume) (fs : List Frame) : Type 0 where

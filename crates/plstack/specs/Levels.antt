@@ -6,6 +6,7 @@ use Rattle.plsearch.specs.Engine.{deeper}
 use Rattle.plsearch.specs.Handlers.{has}
 use Rattle.pllinks.specs.declared.item.Portion.{Portion}
 use Rattle.pllinks.specs.declared.item.Portion.TheVariants as items
+use Rattle.plstack.specs.declared.frame.Handler.TheVariants as handlers
 use Rattle.plstack.specs.declared.frame.Resume.{Resume}
 use Rattle.plstack.specs.declared.frame.Resume.TheVariants as resumes
 use Rattle.plstack.specs.declared.frame.Frame.{Frame}
@@ -28,8 +29,9 @@ sort_of (resumes.Clauses c) = Choosing
 sort_of (resumes.Walk w) = Choosing
 sort_of (resumes.Answers a) = Choosing
 sort_of resumes.List = Choosing
-sort_of (resumes.Handle x) = Guarding
-sort_of resumes.Undo = Undoing
+sort_of (resumes.Handle (handlers.Catch c)) = Guarding
+sort_of (resumes.Handle (handlers.Gather v)) = Guarding
+sort_of (resumes.Handle handlers.Undo) = Undoing
 
 abbrev pub handler_sort : Handler → Sort
 handler_sort (Catch c r) = Guarding

@@ -8,6 +8,7 @@ use Rattle.plsearch.specs.Rows.{branch}
 use Rattle.plsearch.specs.Engine.{deeper}
 use Rattle.pllinks.specs.declared.link.Continuation.{Continuation}
 use Rattle.pllinks.specs.Links.{items_of}
+use Rattle.plstack.specs.declared.frame.Handler.TheVariants as handlers
 use Rattle.plstack.specs.declared.frame.Resume.{Resume}
 use Rattle.plstack.specs.declared.frame.Resume.TheVariants as resumes
 use Rattle.plstack.specs.declared.frame.Handling.{Handling}
@@ -17,7 +18,7 @@ use Rattle.plstack.specs.declared.frame.Closed.{Closed}
 use Rattle.plstack.specs.declared.frame.Closed.TheVariants as closings
 use Rattle.plstack.specs.Places.{Database, handled, case_of, plain, walk_of}
 use Rattle.plstack.specs.Frames.{IsHandled}
-use Rattle.plstack.specs.State.{State, goals_in, goals_of, place_at, cases_of, walks_in, IsFit, IsList, HasClauses, HasWalk, HasBranch, HasAnswers, HasCatcher, HasGatherer, HasUndo}
+use Rattle.plstack.specs.State.{State, goals_in, goals_of, place_at, cases_of, walks_in, IsFit, IsList, Guards, HasClauses, HasWalk, HasBranch, HasAnswers, HasCatcher, HasGatherer, HasUndo}
 
 -- values and lists stand for what they did, whatever cases are open
 pub record KeepsValues (old new : State) : Type 0 where
@@ -40,11 +41,12 @@ branch_of s l = branch (goals_of s l) s.env.count
 abbrev pub undo_of : State → Continuation → Case
 undo_of s l = Handle Undo (place_at s l)
 
--- what a handler stands for
+-- what a handler of a ball or of what was kept stands for
 abbrev pub handler_of : State → Handling → Case
 handler_of s h = Handle (handled s.env.heap h.handler) (place_at s h.list)
 
 pub record IsHandling (s : State) (h : Handling) : Type 0 where
+  pub guards : Guards h.handler
   pub handler : IsHandled s.env.heap h.handler
   pub list : IsList s h.list
   pub fits : IsFit s h.list
@@ -80,8 +82,9 @@ closing (resumes.Clauses c) = closings.Choice
 closing (resumes.Walk w) = closings.Choice
 closing (resumes.Answers a) = closings.Choice
 closing resumes.List = closings.Choice
-closing (resumes.Handle x) = closings.Handler
-closing resumes.Undo = closings.Transaction
+closing (resumes.Handle (handlers.Catch c)) = closings.Handler
+closing (resumes.Handle (handlers.Gather v)) = closings.Handler
+closing (resumes.Handle handlers.Undo) = closings.Transaction
 
 -- the innermost case was closed
 abbrev pub ClosedAs : Database → State → State → Closed → Type 0

@@ -161,6 +161,7 @@ answers_left e vs rest turn = filter_map (solved rest e.count) (left e.heap vs t
 abbrev pub handled : Store → Handles → Handler
 handled h (handlers.Catch c) = Catch (value h c.catcher) (value h c.recovery)
 handled h (handlers.Gather v) = Gather (value h v)
+handled h handlers.Undo = Undo
 
 -- how many values a case keeps
 abbrev pub kept : Resume → ℕ
@@ -169,7 +170,6 @@ kept (resumes.Walk w) = 0
 kept (resumes.Answers a) = a.count
 kept resumes.List = 0
 kept (resumes.Handle x) = 0
-kept resumes.Undo = 0
 
 -- the values that a case keeps
 abbrev pub kept_values : List Cell → Point → Resume → List Cell
@@ -182,7 +182,6 @@ case_of db code d e xs vs (resumes.Walk w) = Choice (candidates_left d e (value 
 case_of db code d e xs vs (resumes.Answers a) = Choice (answers_left e vs (all_elements code e xs) a.turn)
 case_of db code d e xs vs resumes.List = Choice (place_of_items code e xs ∷ [])
 case_of db code d e xs vs (resumes.Handle x) = Handle (handled e.heap x) (place_of_items code e xs)
-case_of db code d e xs vs resumes.Undo = Handle Undo (place_of_items code e xs)
 
 abbrev pub plain : ℕ → List Case → List Case
 plain zero below = below
@@ -222,7 +221,6 @@ walk_of (resumes.Walk w) = viewed w w.spot
 walk_of (resumes.Answers a) = []
 walk_of resumes.List = []
 walk_of (resumes.Handle x) = []
-walk_of resumes.Undo = []
 
 -- those of frames
 abbrev pub walks_of : List Frame → List Walk

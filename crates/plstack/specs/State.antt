@@ -177,6 +177,27 @@ pub record CountsUp (n : ℕ) (old new : List Frame) : Type 0 where
   pub seen : (starts : List ℕ) (latest : View) → AreSeen starts latest old → AreSeen starts latest new
   pub walks : walks_of new ≡ walks_of old
 
+-- what a handler is for: a ball; what was kept; one of the two; or the end of a transaction or a snapshot without success
+abbrev pub Catches : Handler → Type 0
+Catches (handlers.Catch c) = Unit {0}
+Catches (handlers.Gather v) = ⊥
+Catches handlers.Undo = ⊥
+
+abbrev pub Gathers : Handler → Type 0
+Gathers (handlers.Catch c) = ⊥
+Gathers (handlers.Gather v) = Unit {0}
+Gathers handlers.Undo = ⊥
+
+abbrev pub Guards : Handler → Type 0
+Guards (handlers.Catch c) = Unit {0}
+Guards (handlers.Gather v) = Unit {0}
+Guards handlers.Undo = ⊥
+
+abbrev pub Undoes : Handler → Type 0
+Undoes (handlers.Catch c) = ⊥
+Undoes (handlers.Gather v) = ⊥
+Undoes handlers.Undo = Unit {0}
+
 -- what the innermost case is: a choice of the further clauses of a static procedure, of those of a walk, of the further answers of a
 -- predicate, or of a list, a choice with nothing left, a handler, of a ball or of what was kept, or Undo
 abbrev pub IsClauses : Frame → Type 0
@@ -200,20 +221,12 @@ IsPlain (Plain n) = Unit {0}
 IsPlain f = ⊥
 
 abbrev pub IsHandler : Frame → Type 0
-IsHandler (Open p (resumes.Handle x)) = Unit {0}
+IsHandler (Open p (resumes.Handle x)) = Guards x
 IsHandler f = ⊥
 
 abbrev pub IsUndo : Frame → Type 0
-IsUndo (Open p resumes.Undo) = Unit {0}
+IsUndo (Open p (resumes.Handle x)) = Undoes x
 IsUndo f = ⊥
-
-abbrev pub Catches : Handler → Type 0
-Catches (handlers.Catch c) = Unit {0}
-Catches (handlers.Gather v) = ⊥
-
-abbrev pub Gathers : Handler → Type 0
-Gathers (handlers.Catch c) = ⊥
-Gathers (handlers.Gather v) = Unit {0}
 
 abbrev pub IsCatcher : Frame → Type 0
 IsCatcher (Open p (resumes.Handle x)) = Catches x
@@ -268,21 +281,22 @@ pub record RetriesBy (db : Database) (old new : State) (erased : Option ClauseNa
   pub was : cases_of db old ≡ Choice (place_asked erased (place_of new) ∷ others) ∷ older
   pub cases : cases_of db new ≡ Choice others ∷ older
 
--- the innermost case is this handler, and all is as it was at its opening
+-- the innermost case is this handler, of a ball or of what was kept, and all is as it was at its opening
 pub record AtHandler (s : State) (x : Handler) (list : Continuation) : Type 0 where
   pub below : Database → List Case
   pub cases : (db : Database) → cases_of db s ≡ Handle (handled s.env.heap x) (place_at s list) ∷ below db
+  pub guards : Guards x
   pub there : IsHandled s.env.heap x
   pub list_there : IsList s list
   pub list_fits : FitsIn (drop 1 (kinds_in s)) (goals_of s list)
   pub has : HasHandler s
 
--- the innermost case was a handler, and a list is visited in a choice with nothing left in its place
+-- the innermost case was a handler of a ball or of what was kept, and a list is visited in a choice with nothing left in its place
 pub record Recovers (old new : State) (list : Continuation) : Type 0 where
   pub cases : (db : Database) (h : Case) (below : List Case) → cases_of db old ≡ h ∷ below → cases_of db new ≡ Choice [] ∷ below
   pub place : place_of new ≡ place_at old list
 
--- the innermost case was a handler, and is closed, and a list is visited
+-- the innermost case was a handler of a ball or of what was kept, and is closed, and a list is visited
 pub record Leaves (old new : State) (list : Continuation) : Type 0 where
   pub cases : (db : Database) (h : Case) (below : List Case) → cases_of db old ≡ h ∷ below → cases_of db new ≡ below
   pub place : place_of new ≡ place_at old list

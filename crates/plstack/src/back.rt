@@ -45,7 +45,8 @@ impl Stack {
         point.marks
     }
 
-    /// Goes back to where the innermost case was opened, which is a handler and stays open: the handler, and the list behind its goal.
+    /// Goes back to where the innermost case was opened, which is a handler of a ball or of what was kept and stays open: the handler, and the
+    /// list behind its goal.
     pub fn rewind(&mut self) -> Handling
         requires { HasHandler self.old }
         ensures cases { (db : Database) → cases_of db self.new ≡ cases_of db self.old }
@@ -71,7 +72,7 @@ impl Stack {
         Handling { handler, list }
     }
 
-    /// Visits a list in a choice with nothing left, in place of the innermost case, which is a handler.
+    /// Visits a list in a choice with nothing left, in place of the innermost case, which is a handler of a ball or of what was kept.
     #[tactic(auto, using(crate::proofs::Returning::recovers_settled))]
     pub fn recover(&mut self, list: Continuation)
         requires handler { HasHandler self.old }
@@ -85,7 +86,7 @@ impl Stack {
         self.settle(marks);
     }
 
-    /// Closes the innermost case, which is a handler, and visits a list.
+    /// Closes the innermost case, which is a handler of a ball or of what was kept, and visits a list.
     #[tactic(auto, using(crate::proofs::Returning::leaves_settled))]
     pub fn leave(&mut self, list: Continuation)
         requires handler { HasHandler self.old }
@@ -99,7 +100,7 @@ impl Stack {
         self.settle(marks);
     }
 
-    /// Takes off the innermost case, which is a handler, and visits a list: the handler's marks.
+    /// Takes off the innermost case, which is a handler of a ball or of what was kept, and visits a list: the handler's marks.
     fn close_handler(&mut self, list: Continuation) -> Marks
         requires handler { HasHandler self.old }
         requires list { IsList self.old list }
@@ -121,7 +122,8 @@ impl Stack {
         point.marks
     }
 
-    /// Puts a choice with nothing left in the place of the innermost case, which is a handler, and visits a list: the handler's marks.
+    /// Puts a choice with nothing left in the place of the innermost case, which is a handler of a ball or of what was kept, and visits a list: the
+    /// handler's marks.
     fn leave_handler(&mut self, list: Continuation) -> Marks
         requires handler { HasHandler self.old }
         requires list { IsList self.old list }

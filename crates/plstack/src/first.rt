@@ -16,8 +16,8 @@ use pllinks::link::{Continuation, first_link};
 pub enum First {
     /// The list is empty.
     Nothing,
-    /// A conjunction of a clause's body: the list in which its two goals stand in its place.
-    Both(Continuation),
+    /// A conjunction of a clause's body: the list in which its two goals stand in its place, and the step that its run begins with.
+    Both(Continuation, Step),
     /// Any other goal of a clause's body: the run that begins with it, its step, and the list behind it.
     Step(ClauseGoals, Step, Continuation),
     /// A goal that is a term: its cut level, its value, and the list behind it.
@@ -53,6 +53,15 @@ impl Stack {
         }
     }
 
+    /// What stands first in the visited list, whose run begins with a step.
+    #[inline(always)]
+    pub fn first_of_step(&self, step: Step) -> First
+        requires { IsStep self.now.basis.code.text self.now.goals.run.position step }
+        ensures { IsFirst self.now result }
+    {
+        self.first_of_run(self.goals, step)
+    }
+
     /// The step that a run begins with; none where it is at its end.
     fn step_of(&self, run: ClauseGoals) -> Option<Step>
         ensures some { IfSome result (λ x. IsStep self.now.basis.code.text run.position x) }
@@ -79,7 +88,7 @@ impl Stack {
                 owed: run.owed + 1,
                 ..run
             };
-            return First::Both(Continuation { run: next, rest });
+            return First::Both(Continuation { run: next, rest }, step);
         }
         let behind = ClauseGoals {
             position: run.position - 1,

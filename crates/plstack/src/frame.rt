@@ -91,6 +91,8 @@ pub enum Handler {
     Catch(Catcher),
     /// The term of a value is unified with the list of what was kept.
     Gather(Cell),
+    /// A transaction or a snapshot ends without success.
+    Undo,
 }
 
 /// What an open case does with what it comes back to.
@@ -106,8 +108,6 @@ pub enum Resume {
     List,
     /// It is a handler.
     Handle(Handler),
-    /// A transaction or a snapshot ends without success.
-    Undo,
 }
 
 /// Open cases.
@@ -115,11 +115,11 @@ pub enum Resume {
 pub enum Frame {
     /// So many choices with nothing left to try.
     Plain(u64),
-    /// A choice point, a handler, or where a transaction or a snapshot ends without success.
+    /// A choice point or a handler.
     Open(Point, Resume),
 }
 
-/// A handler, and the list behind the goal that it is for.
+/// A handler of a ball or of what was kept, and the list behind the goal that it is for.
 #[derive(Clone, Copy)]
 pub struct Handling {
     pub handler: Handler,
@@ -133,7 +133,7 @@ pub enum Around {
     Nothing,
     /// A choice of one list.
     Branch(Continuation),
-    /// A handler.
+    /// A handler of a ball or of what was kept.
     Handle(Handling),
 }
 
@@ -142,7 +142,7 @@ pub enum Around {
 pub enum Closed {
     /// A choice.
     Choice,
-    /// A handler.
+    /// A handler of a ball or of what was kept.
     Handler,
     /// Where a transaction or a snapshot ends without success.
     Transaction,

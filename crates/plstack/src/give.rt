@@ -1,14 +1,26 @@
 //! Goal lists and slots that nothing holds.
-ghost use Rattle.std.specs.Prelude.{◌≡◌, reverse};
+ghost use Rattle.std.specs.Prelude.{◌≡◌, ◌↔◌, IsTrue, reverse};
 ghost use Rattle.plstack.specs.Holding.{held};
+ghost use Rattle.plstack.specs.State.{depth_in};
 ghost use Rattle.plstack.specs.Giving.{GivesBack, IsLow, IsShort};
 
 use crate::hold::links_held_in;
 use crate::list::drop_below;
 use crate::stack::Stack;
-use pllinks::link::slots_of;
+use pllinks::level::Level;
+use pllinks::link::{Continuation, slots_of};
 
 impl Stack {
+    /// Whether the visited list goes on where a list does, in a clause whose slots end at a place, and the cases are open up to a level. Where a
+    /// goal of that clause was selected before that list, in as many cases, what it left can wait for the clause's next call.
+    #[inline(always)]
+    pub fn goes_on(&self, list: &Continuation, end: u32, depth: Level) -> bool
+        ensures { IsTrue result ↔ (self.now.goals.run.position ≡ list.now.run.position) × (self.now.goals.run.«end» ≡ end) × (depth_in self.now ≡ depth) }
+    {
+        let run = &self.goals.run;
+        run.position == list.run.position && run.end == end && self.depth() == depth
+    }
+
     /// Gives back lists and slots that neither the open cases nor the list that is visited hold.
     #[tactic(auto, using(crate::proofs::Giving::back_trans))]
     pub fn give_back(&mut self)

@@ -49,7 +49,7 @@ fn kept_by(resume: &Resume) -> u32
     match resume {
         Resume::Clauses(clauses) => clauses.count.into(),
         Resume::Answers(answers) => answers.count,
-        Resume::Walk(_) | Resume::List | Resume::Handle(_) | Resume::Undo => 0,
+        Resume::Walk(_) | Resume::List | Resume::Handle(_) => 0,
     }
 }
 

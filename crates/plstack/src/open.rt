@@ -11,7 +11,7 @@ ghost use Rattle.plstack.specs.State.{beginning, cases_of, walks_in, CountsUp, E
 ghost use Rattle.plstack.specs.Opening.{around_cases, branch_of, closing, undo_of, ClosedAs, ClosesPlain, IsAround, OpensFrame, OpensIn};
 ghost use Rattle.plstack.specs.declared.frame.Closed.TheVariants.{Transaction};
 
-use crate::frame::{Around, Closed, Frame, Marks, Point, Resume};
+use crate::frame::{Around, Closed, Frame, Handler, Marks, Point, Resume};
 use crate::stack::Stack;
 use pllinks::level::Level;
 use pllinks::link::Continuation;
@@ -44,7 +44,7 @@ impl Stack {
     }
 
     /// Opens a choice with nothing left to try, for the cut level of a goal, in other cases.
-    #[tactic(auto, using(crate::proofs::Opening::opens_in_branch, crate::proofs::Opening::opens_in_handler))]
+    #[tactic(auto, using(crate::proofs::Opening::opens_in_branch, crate::proofs::Opening::opens_in_handler, crate::proofs::Undoing::guards_stays))]
     pub fn open_run(&mut self, around: Around) -> Result<(), AllocError>
         requires { IsAround self.old around }
         ensures ok { OnOk result (Opens self.old self.new (Choice [] ∷ around_cases self.old around)) }
@@ -128,7 +128,7 @@ impl Stack {
             saved: self.saved.len(),
         };
         count_up(&mut self.frames, 1);
-        let undo = Frame::Open(Point { marks, list }, Resume::Undo);
+        let undo = Frame::Open(Point { marks, list }, Resume::Handle(Handler::Undo));
         push_within(&mut self.frames, undo);
         count_up(&mut self.frames, 1);
         push_start(&mut self.basis.starts, view.count);
@@ -156,8 +156,9 @@ impl Stack {
         self.goals = Continuation::alone(ListId::EMPTY);
         match frame {
             Frame::Open(_, resume) => {
-                let Resume::Undo = resume else {
-                    return Some(closed_as(resume));
+                let closed = closed_as(resume);
+                let Closed::Transaction = closed else {
+                    return Some(closed);
                 };
                 let Some(start) = self.basis.starts.pop() else {
                     unreachable!()
@@ -211,8 +212,9 @@ fn closed_as(resume: Resume) -> Closed
         Resume::Walk(_) => Closed::Choice,
         Resume::Answers(_) => Closed::Choice,
         Resume::List => Closed::Choice,
-        Resume::Handle(_) => Closed::Handler,
-        Resume::Undo => Closed::Transaction,
+        Resume::Handle(Handler::Catch(_)) => Closed::Handler,
+        Resume::Handle(Handler::Gather(_)) => Closed::Handler,
+        Resume::Handle(Handler::Undo) => Closed::Transaction,
     }
 }
 

@@ -109,7 +109,7 @@ impl Stack {
         self.depth
     }
 
-    /// The level of the innermost case, which is a handler or ends a transaction.
+    /// The level of the innermost case, which is a handler.
     pub fn level(&self) -> Level
         requires { HasHandler self.now ⊎ HasUndo self.now }
         ensures { (db : Database) → deeper (cases_of db self.now) 0 ≡ result + 1 }
@@ -176,6 +176,9 @@ impl Stack {
     pub fn is_undo(&self) -> bool
         ensures { IsTrue result ↔ HasUndo self.now }
     {
-        matches!(self.frames.last(), Some(Frame::Open(_, Resume::Undo)))
+        matches!(
+            self.frames.last(),
+            Some(Frame::Open(_, Resume::Handle(Handler::Undo)))
+        )
     }
 }

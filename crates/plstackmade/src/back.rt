@@ -2,7 +2,7 @@
 ghost use Rattle.std.specs.Prelude.{◌≡◌, drop, true, IfOk, OnOk};
 ghost use Rattle.plstack.specs.Frames.{IsHandled};
 ghost use Rattle.plstack.specs.Levels.{FitsIn};
-ghost use Rattle.plstack.specs.State.{goals_of, kinds_in, HasHandler, IsList};
+ghost use Rattle.plstack.specs.State.{goals_of, kinds_in, Guards, HasHandler, IsList};
 ghost use Rattle.plcells.specs.Store.{IsValue};
 
 use crate::state::number;
@@ -87,9 +87,10 @@ fn rewind(stack: &mut Stack) -> Result<Continuation, Fail>
     Ok(stack.rewind().list)
 }
 
-/// The texts of a handler's values.
+/// The texts of the values of a handler of a ball or of what was kept.
 fn handler_text(alloc: Global, heap: &Heap, handler: &Handler) -> Result<String, Fail>
-    requires { IsHandled heap.now handler.now }
+    requires guards { Guards handler.now }
+    requires there { IsHandled heap.now handler.now }
 {
     match handler {
         Handler::Catch(at) => {
@@ -98,6 +99,7 @@ fn handler_text(alloc: Global, heap: &Heap, handler: &Handler) -> Result<String,
             Ok(format!(in alloc; "{catcher} to {recovery}")?)
         }
         Handler::Gather(whole) => Ok(shown(alloc, heap, *whole)?),
+        Handler::Undo => unreachable!(),
     }
 }
 

@@ -95,7 +95,7 @@ pub fn pick(stack: &mut Stack, values: &mut Vec<Cell>) -> Result<Picked, Fail>
     match stack.first() {
         First::Step(run, step, rest) => pick_step(stack, run, step, rest, values),
         First::Goal(level, v, rest) => pick_term(stack, level, v, rest, values),
-        First::Nothing | First::Both(_) | First::Marker(_, _, _) => Err("no goal".into()),
+        First::Nothing | First::Both(_, _) | First::Marker(_, _, _) => Err("no goal".into()),
     }
 }
 
@@ -105,7 +105,7 @@ fn has_goals(stack: &Stack) -> bool
 {
     match stack.first() {
         First::Nothing => false,
-        First::Both(_) => true,
+        First::Both(_, _) => true,
         First::Step(_, _, _) => true,
         First::Goal(_, _, _) => true,
         First::Marker(_, _, _) => true,
@@ -144,7 +144,7 @@ pub fn behind(stack: &Stack) -> Result<Continuation, Fail>
 {
     match stack.first() {
         First::Nothing => Err("no goals".into()),
-        First::Both(next) => Ok(next),
+        First::Both(next, _) => Ok(next),
         First::Step(_, _, rest) => Ok(rest),
         First::Goal(_, _, rest) => Ok(rest),
         First::Marker(kind, _, rest) => {

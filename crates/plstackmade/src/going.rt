@@ -101,7 +101,7 @@ fn cut_at(stack: &Stack) -> Result<Cutting, Fail>
             Ok(Cutting { level, rest })
         }
         First::Nothing => Err("no goals".into()),
-        First::Both(_) => Err("a conjunction".into()),
+        First::Both(_, _) => Err("a conjunction".into()),
     }
 }
 

@@ -4,7 +4,7 @@ ghost use Rattle.plcells.specs.Store.{IsValue};
 ghost use Rattle.pllinks.specs.Lists.{marker_of, IsMarker};
 ghost use Rattle.plstack.specs.Frames.{IsHandled};
 ghost use Rattle.plstack.specs.Levels.{transact_at, MayCut, Sort};
-ghost use Rattle.plstack.specs.State.{Extends};
+ghost use Rattle.plstack.specs.State.{Extends, Guards};
 
 use crate::first::list;
 use crate::made::enter;
@@ -56,8 +56,9 @@ fn never(stack: &mut Stack) -> Result<(), Fail> {
     Ok(enter(stack, marker, &rest, around)?)
 }
 
-/// Opens a handler and in it a choice with nothing left, and visits in that a marker of the handler before the visited list.
+/// Opens a handler of a ball or of what is kept, and in it a choice with nothing left, and visits in that a marker of the handler before the visited list.
 fn handle(stack: &mut Stack, handler: Handler, kind: MarkerKind) -> Result<(), Fail>
+    requires guards { Guards handler }
     requires handler { IsHandled stack.old.env.heap handler }
     requires marker { IsMarker stack.old.env.heap kind }
     requires cuts { (ks : List Sort) (d : ℕ) → MayCut ks (marker_of stack.old.env.heap kind) d }

@@ -90,7 +90,7 @@ pub fn first_text(stack: &mut Stack, alloc: Global) -> Result<String, Fail>
 {
     match stack.first() {
         First::Nothing => Ok("-".to_string(alloc)?),
-        First::Both(_) => Ok("both".to_string(alloc)?),
+        First::Both(_, _) => Ok("both".to_string(alloc)?),
         First::Step(run, step, rest) => step_text(stack, alloc, run, step, &rest),
         First::Goal(level, v, _) => goal_text(alloc, stack.env().heap(), level, v),
         First::Marker(kind, level, _) => marker_text(alloc, stack.env().heap(), kind, level),

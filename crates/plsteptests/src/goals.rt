@@ -80,7 +80,7 @@ fn step(program: &Program, machine: &mut Machine) -> Result<(), Fail>
 fn pass_both(stack: &mut Stack)
     ensures { stack.new.basis ≡ stack.old.basis }
 {
-    if let First::Both(next) = stack.first() {
+    if let First::Both(next, _) = stack.first() {
         stack.visit(next);
     }
 }

@@ -21,7 +21,7 @@ run-requires-clause-how c =
     let next : c.in-Some.level ≡ suc c.depth-depth.result = omega (arith, c.in-Some.ensures.some) in
     record {
       few = tt;
-      around = (around-grown s c.ready_before.new.self.stack (arounds.Handle (record { handler = handlers.Gather c.args.finding.whole; list = c.args.rest })) c.ready_before.ensures.grown (record { handler = c.requires.whole; list = c.requires.rest; fits = c.requires.fits })).1;
+      around = (around-grown s c.ready_before.new.self.stack (arounds.Handle (record { handler = handlers.Gather c.args.finding.whole; list = c.args.rest })) c.ready_before.ensures.grown (record { guards = tt; handler = c.requires.whole; list = c.requires.rest; fits = c.requires.fits })).1;
       list = c.in_ok-ready.ensures.list.there;
       level = run-level s c.ready_before.new.self.stack c.ready_before.ensures.grown.extends (Choosing ∷ Guarding ∷ []) c.in-Some.level c.in_ok-ready.list _ c.in_ok-ready.ensures.list
           (inner-precedes (kinds_in s) Guarding c.depth-depth.result (c.depth-depth.ensures.is ∙ sym (depth-kinds s)) refl (goals_of s c.args.rest) c.requires.fits (Collect (value s.env.heap c.args.finding.template)) c.in-Some.level next tt refl);
@@ -36,7 +36,7 @@ returns-clause-ok c P =
     let next : c.in-Some.level ≡ suc c.depth-depth.result = omega (arith, c.in-Some.ensures.some) in
     let goals = c.in_ok-ready.ensures.list.is ∙ ap (λ d. Marker (Collect (value s.stack.env.heap c.args.finding.template)) d ∷ goals_of s.stack c.args.rest) depth in
     on_ok_map c.run.result (moved-grown P s t c.run.new.self _ _ g c.ready_before.ensures.frame
-    (run-same findall_3 findall_3 refl _ _ _ _ _ _ _ _ _ _ _ _ (sym c.in_ok-ready.ensures.ready.is) (around-grown s.stack t.stack (arounds.Handle (record { handler = handlers.Gather c.args.finding.whole; list = c.args.rest })) g (record { handler = c.requires.whole; list = c.requires.rest; fits = c.requires.fits })).0 (next ∙ ap suc depth) goals g.count (ap (λ x. local_of x) c.ready_before.ensures.frame))) (c.run.ensures.ok P)
+    (run-same findall_3 findall_3 refl _ _ _ _ _ _ _ _ _ _ _ _ (sym c.in_ok-ready.ensures.ready.is) (around-grown s.stack t.stack (arounds.Handle (record { handler = handlers.Gather c.args.finding.whole; list = c.args.rest })) g (record { guards = tt; handler = c.requires.whole; list = c.requires.rest; fits = c.requires.fits })).0 (next ∙ ap suc depth) goals g.count (ap (λ x. local_of x) c.ready_before.ensures.frame))) (c.run.ensures.ok P)
 
 pub returns-clause-err : goal.returns-clause-err
 returns-clause-err c P =

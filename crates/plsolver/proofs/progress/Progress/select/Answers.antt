@@ -1,4 +1,4 @@
-use Rattle.std.proofs.Common.{ap, ap₂, subst, sym, inr, le_refl}
+use Rattle.std.proofs.Common.{ap, subst}
 use Rattle.plcells.specs.Store.{value}
 use Rattle.plstack.specs.State.{goals_of, kinds_in}
 use Rattle.plstack.specs.Levels.{FitsIn}
@@ -6,7 +6,9 @@ use Rattle.plmachine.specs.Machine.{IsLast}
 use Rattle.plmachine.specs.Selected.{bound_at}
 use Rattle.plmachine.proofs.Moves.{on_ok_map}
 use Rattle.plsolver.specs.Solver.{IsSelected}
-use Rattle.plsolver.proofs.Runs.{either_latest, either_of, either_walks, moved_of, selects-both, selects-row, visits-tied}
+use Rattle.plsolver.proofs.Runs.{either_latest, either_of, either_walks, selects-row, visits-tied}
+use Rattle.plstack.proofs.Beginning.{both-fits}
+use Rattle.plsolver.proofs.Conjunctions.{both-of, both-selects}
 use Rattle.plsolver.proofs.Ending.{ends_refl}
 use Rattle.plsolver.proofs.progress.Progress.select.Goals as goal
 
@@ -14,23 +16,18 @@ use Rattle.plsolver.proofs.progress.Progress.select.Goals as goal
 
 pub visit-requires-clause-fits : goal.visit-requires-clause-fits
 visit-requires-clause-fits c =
-    let s = c.args.self.now.machine in
-    let both = (subst (IsSelected s) c.in-Both.is c.requires.goal).1 in
-    let p = subst (FitsIn (kinds_in s.stack)) both.goals both.levels in
-    inr (subst (FitsIn (kinds_in s.stack)) (sym both.next_goals) ((p.0.0, p.0.1, (le_refl _, p.0.1, p.0.2)), p.1))
+    let both = subst (IsSelected c.args.self.now.machine) c.in-Both.is c.requires.goal in
+    both-fits c.args.self.now.machine.stack _ c.in-Both.next _ both.1
 
 pub returns-in-Both-clause-ok : goal.returns-in-Both-clause-ok
 returns-in-Both-clause-ok c =
-    let s = c.args.self.now in
-    let both = subst (IsSelected s.machine) c.in-Both.is c.requires.goal in
-    selects-both c.args.program.now s.machine (record s.machine { stack = c.visit.new.self }) c.in-Both.next both.1 (ap₂ (λ st m. record s.machine { stack = st; mode = m }) c.visit.ensures.is both.0)
+    let both = subst (IsSelected c.args.self.now.machine) c.in-Both.is c.requires.goal in
+    both-selects c.args.self.now c.in-Both.next _ both.0 both.1 c.visit.new.self c.visit.ensures.is c.args.program.now
 
 pub returns-in-Both-clause-of : goal.returns-in-Both-clause-of
 returns-in-Both-clause-of c =
-    let s = c.args.self.now in
-    let both = subst (IsSelected s.machine) c.in-Both.is c.requires.goal in
-    let did = selects-both c.args.program.now s.machine (record s.machine { stack = c.visit.new.self }) c.in-Both.next both.1 (ap₂ (λ st m. record s.machine { stack = st; mode = m }) c.visit.ensures.is both.0) in
-    moved_of c.args.program.now s.machine (record s.machine { stack = c.visit.new.self }) _ c.requires.of (λ last. subst IsLast c.requires.goal.0 last) (did _ _ _ both.1.goals)
+    let both = subst (IsSelected c.args.self.now.machine) c.in-Both.is c.requires.goal in
+    both-of c.args.self.now c.in-Both.next _ both.0 both.1 c.visit.new.self c.visit.ensures.is c.args.program.now c.requires.of
 
 pub returns-in-Both-clause-latest : goal.returns-in-Both-clause-latest
 returns-in-Both-clause-latest c = ap (λ st. st.basis.latest.place) c.visit.ensures.is

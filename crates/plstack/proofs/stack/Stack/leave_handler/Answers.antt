@@ -3,8 +3,8 @@ use Rattle.plstack.specs.declared.frame.Point.{Point}
 use Rattle.plstack.specs.declared.frame.Handler.{Handler}
 use Rattle.plstack.specs.declared.frame.Resume.TheVariants as resumes
 use Rattle.plstack.specs.declared.frame.Frame.TheVariants.{Open}
-use Rattle.plstack.specs.State.{State}
-use Rattle.plstack.proofs.Stacks.{inside}
+use Rattle.plstack.specs.State.{State, Guards, IsHandler}
+use Rattle.plstack.proofs.Stacks.{inside, is-last}
 use Rattle.plstack.proofs.Returning.{recovered-stack, recovers, within-now, older-then}
 use Rattle.plstack.proofs.Ending.{counted-walks}
 use Rattle.plstack.proofs.stack.Stack.leave_handler.Goals as goal
@@ -15,9 +15,10 @@ invariant_of-self c =
     let p : Point = c.in-Some-Open.point in
     let k : Handler = c.in-Handle.field-0 in
     let popped : s.frames ≡ c.pop.new.self.items ++ Open p (resumes.Handle k) ∷ [] = c.in-Some-Open.ensures.items ∙ ap (λ f. c.pop.new.self.items ++ f ∷ []) (c.in-Some-Open.field-0-is ∙ ap (Open p) c.in-Handle.is) in
+    let guards : Guards k = is-last IsHandler s.frames c.pop.new.self.items (Open p (resumes.Handle k)) popped (rw (← c.self.view_is) at c.requires.handler) in
     let list = rw (← c.self.view_is) at c.requires.list in
     let f = rw (← c.self.view_is) at c.requires.fits in
-    recovered-stack s c.self.inside.depth c.self.invariant c.pop.new.self.items p k popped c.count_up.new.frames.items c.count_up.ensures.counts c.args.list list f
+    recovered-stack s c.self.inside.depth c.self.invariant c.pop.new.self.items p k guards popped c.count_up.new.frames.items c.count_up.ensures.counts c.args.list list f
 
 pub returns-clause-recovers : goal.returns-clause-recovers
 returns-clause-recovers c =
@@ -25,9 +26,10 @@ returns-clause-recovers c =
     let p : Point = c.in-Some-Open.point in
     let k : Handler = c.in-Handle.field-0 in
     let popped : s.frames ≡ c.pop.new.self.items ++ Open p (resumes.Handle k) ∷ [] = c.in-Some-Open.ensures.items ∙ ap (λ f. c.pop.new.self.items ++ f ∷ []) (c.in-Some-Open.field-0-is ∙ ap (Open p) c.in-Handle.is) in
+    let guards : Guards k = is-last IsHandler s.frames c.pop.new.self.items (Open p (resumes.Handle k)) popped (rw (← c.self.view_is) at c.requires.handler) in
     let list = rw (← c.self.view_is) at c.requires.list in
     let f = rw (← c.self.view_is) at c.requires.fits in
-    rw (← c.self.view_is) (recovers s c.self.inside.depth c.self.invariant c.pop.new.self.items p k popped c.count_up.new.frames.items c.count_up.ensures.counts c.args.list list f)
+    rw (← c.self.view_is) (recovers s c.self.inside.depth c.self.invariant c.pop.new.self.items p k guards popped c.count_up.new.frames.items c.count_up.ensures.counts c.args.list list f)
 
 pub returns-clause-within : goal.returns-clause-within
 returns-clause-within c =
