@@ -3,8 +3,8 @@ use Rattle.std.proofs.Common.{◌≡◌, suc, ◌+◌, ◌<◌, ℤ, List, [], �
 use Rattle.plterm.specs.Tree.{Tree}
 use Rattle.plcells.specs.Walking.{weight}
 use Rattle.plarith.specs.declared.error.ArithError.{ArithError}
-use Rattle.plarith.specs.declared.functor.Unary.{Unary}
-use Rattle.plarith.specs.declared.functor.Binary.{Binary}
+use Rattle.platoms.specs.declared.evaluable.Unary.{Unary}
+use Rattle.platoms.specs.declared.evaluable.Binary.{Binary}
 use Rattle.plarith.specs.declared.operand.Operand.{Operand}
 use Rattle.plarith.specs.declared.evaluate.Frame.{Frame}
 use Rattle.plarith.specs.declared.evaluate.Frame.TheVariants.{One, Left, Right}

@@ -3,7 +3,7 @@ use Rattle.std.proofs.Common.{◌≡◌, ℕ, ℤ, pos, neg_ℤ, List, [], ◌�
 use Rattle.std.specs.Prelude.{codes}
 use Rattle.plterm.specs.Tree.{Tree, var, int, atom, compound, none, more}
 use Rattle.plarith.specs.declared.error.ArithError.TheVariants.{Unbound, NotEvaluable, NotFloat, ZeroDivisor, Undefined, IntOverflow}
-use Rattle.plarith.specs.Functors.{unary_rows, binary_rows, unary_of, binary_of}
+use Rattle.platoms.specs.Evaluable.{unary_of, binary_of}
 use Rattle.plarith.specs.Errors.{Evaluated, error_of}
 use Rattle.plerror.specs.Errors.{alone, pair}
 use Rattle.plarith.specs.Evaluation.{eval}
@@ -19,11 +19,11 @@ smallest = minus 9223372036854775808
 
 -- f(x) and f(x, y) of integers
 unfoldable on_one : List ℕ → List ℤ → List Evaluated
-unfolding eval unary_of unary_rows
+unfolding eval unary_of
 on_one f xs = map (λ x. eval (alone f (int x))) xs
 
 unfoldable on_two : List ℕ → List (ℤ × ℤ) → List Evaluated
-unfolding eval binary_of binary_rows
+unfolding eval binary_of
 on_two f xs = map (λ x. eval (pair f (int x.0) (int x.1))) xs
 
 sums : on_two (codes "+") ((pos 3, pos 4) ∷ (pos 3, minus 5) ∷ (largest, pos 0) ∷ (largest, pos 1) ∷ (smallest, largest) ∷ (smallest, minus 1) ∷ []) ≡
@@ -140,7 +140,7 @@ functors : map eval (foo (var 0) ∷ pair (codes "+") (var 0) (foo (int (pos 1))
     compound (codes "+") (more (int (pos 1)) (more (int (pos 2)) (more (int (pos 3)) none))) ∷ []) ≡
     not_evaluable (codes "foo") 1 ∷ Err Unbound ∷ not_evaluable (codes "foo") 1 ∷ not_evaluable (codes "foo") 0 ∷
     not_evaluable (codes "abs") 2 ∷ not_evaluable (codes ".") 2 ∷ not_evaluable (codes "mod") 1 ∷ not_evaluable (codes "+") 3 ∷ []
-unfolding eval unary_of binary_of unary_rows binary_rows
+unfolding eval unary_of binary_of
 functors = refl
 
 -- 1 + 2 / 0 + foo, 1 - (2 - 3 * 4), the first error from the left
@@ -148,7 +148,7 @@ nested : map eval (pair (codes "+") (pair (codes "+") (int (pos 1)) (pair (codes
     pair (codes "-") (int (pos 1)) (pair (codes "-") (int (pos 2)) (pair (codes "*") (int (pos 3)) (int (pos 4)))) ∷
     pair (codes "*") (alone (codes "-") (int smallest)) (var 0) ∷ pair (codes "*") (var 0) (alone (codes "-") (int smallest)) ∷ []) ≡
     Err ZeroDivisor ∷ Ok (pos 11) ∷ Err IntOverflow ∷ Err Unbound ∷ []
-unfolding eval unary_of binary_of unary_rows binary_rows
+unfolding eval unary_of binary_of
 nested = refl
 
 -- the terms of the errors

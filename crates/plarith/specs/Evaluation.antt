@@ -1,10 +1,10 @@
 -- What an expression comes to (ISO/IEC 13211-1 7.9).
 use Rattle.std.specs.Prelude.{ℕ, List, [], ◌∷◌, length, Option, Some, None, Ok, Err}
 use Rattle.plterm.specs.Tree.{Tree, var, int, atom, compound, Trees, none, more}
-use Rattle.plarith.specs.declared.functor.Unary.{Unary}
-use Rattle.plarith.specs.declared.functor.Binary.{Binary}
+use Rattle.platoms.specs.declared.evaluable.Unary.{Unary}
+use Rattle.platoms.specs.declared.evaluable.Binary.{Binary}
 use Rattle.plarith.specs.declared.error.ArithError.TheVariants.{Unbound, NotEvaluable}
-use Rattle.plarith.specs.Functors.{unary_of, binary_of}
+use Rattle.platoms.specs.Evaluable.{unary_of, binary_of}
 use Rattle.plarith.specs.Errors.{Evaluated}
 use Rattle.plarith.specs.Operations.{unary, binary}
 

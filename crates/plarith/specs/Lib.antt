@@ -1,4 +1,3 @@
-pub mod Functors
 pub mod Errors
 pub mod Integers
 pub mod Operations

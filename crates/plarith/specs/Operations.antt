@@ -1,10 +1,10 @@
 -- What the evaluable functors give for integers (ISO/IEC 13211-1 9.1, 9.3, 9.4).
 use Rattle.std.specs.Prelude.{ℕ, zero, suc, ◌^◌, ℤ, pos, negsuc, ◌+ℤ◌, ◌-ℤ◌, ◌*ℤ◌, neg_ℤ, unsigned_abs, int_div, Ok, Err, nat_lt, if◌then◌else◌}
 use Rattle.std.specs.Int.{w64, int_pow, int_signum, int_bit_and, int_bit_or, int_max, int_min}
-use Rattle.plarith.specs.declared.functor.Unary.{Unary}
-use Rattle.plarith.specs.declared.functor.Unary.TheVariants.{Negate, Keep, Absolute, Sign, Complement}
-use Rattle.plarith.specs.declared.functor.Binary.{Binary}
-use Rattle.plarith.specs.declared.functor.Binary.TheVariants.{Add, Subtract, Multiply, Quotient, Divide, Remainder, Modulo, Power, ShiftLeft, ShiftRight, And, Or, Maximum, Minimum}
+use Rattle.platoms.specs.declared.evaluable.Unary.{Unary}
+use Rattle.platoms.specs.declared.evaluable.Unary.TheVariants.{Negate, Keep, Absolute, Sign, Complement}
+use Rattle.platoms.specs.declared.evaluable.Binary.{Binary}
+use Rattle.platoms.specs.declared.evaluable.Binary.TheVariants.{Add, Subtract, Multiply, Quotient, Divide, Remainder, Modulo, Power, ShiftLeft, ShiftRight, And, Or, Maximum, Minimum}
 use Rattle.plarith.specs.declared.error.ArithError.TheVariants.{NotFloat, ZeroDivisor, Undefined, IntOverflow}
 use Rattle.plarith.specs.Errors.{Evaluated}
 use Rattle.plarith.specs.Integers.{floor_by, modulo, remainder, complement}

@@ -7,8 +7,9 @@ ghost use Rattle.plarith.specs.Evaluation.{eval};
 ghost use Rattle.plarith.specs.Frames.{ahead, follows, waiting, Goes};
 
 use crate::error::Evaluated;
-use crate::functor::{Binary, Unary};
 use crate::operand::{Opened, Operand, Operands};
+use crate::{binary, unary};
+use platoms::evaluable::{Binary, Unary};
 use std::alloc::{AllocError, Global};
 
 /// An operation that waits.
@@ -74,12 +75,12 @@ fn go_back(frames: &mut Vec<Frame>, x: i64) -> Result<Step, AllocError>
 {
     match frames.pop() {
         None => Ok(Step::Ends(Ok(x))),
-        Some(Frame::One(f)) => Ok(after(f.apply(x))),
+        Some(Frame::One(f)) => Ok(after(unary::apply(f, x))),
         Some(Frame::Left(f, right)) => {
             frames.push(Frame::Right(f, x))?;
             Ok(Step::Into(right))
         }
-        Some(Frame::Right(f, left)) => Ok(after(f.apply(left, x))),
+        Some(Frame::Right(f, left)) => Ok(after(binary::apply(f, left, x))),
     }
 }
 

@@ -1,14 +1,13 @@
 //! Arithmetic (ISO/IEC 13211-1 9): what expressions give on integers of 64 bits, and their evaluation.
 //!
-//! `functor` has the tables of evaluable functors. A further one is one more variant and one more row there, a clause of the definition of
-//! what it gives, and its arm in `unary` or `binary`.
+//! Which functors are evaluable the table of names tells by their numbers (`evaluable` of platoms). A further one is one more variant and one
+//! more row there, a clause of the definition of what it gives, and its arm in `unary` or `binary`.
 #![tactic(auto)]
 
 pub mod binary;
 mod division;
 pub mod error;
 pub mod evaluate;
-pub mod functor;
 pub mod operand;
 mod power;
 mod shift;

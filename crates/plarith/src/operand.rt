@@ -4,10 +4,10 @@ ghost use Rattle.plterm.specs.Tree.{Tree};
 ghost use Rattle.plarith.specs.declared.operand.Operand.{Operand};
 ghost use Rattle.plarith.specs.declared.operand.Opened.TheVariants.{Known};
 ghost use Rattle.plarith.specs.Evaluation.{not_evaluable};
-ghost use Rattle.plarith.specs.Operands.{seen_one, seen_two, Opens};
+ghost use Rattle.plarith.specs.Operands.{Opens};
 
 use crate::error::{ArithError, Evaluated};
-use crate::functor::{Binary, Unary};
+use platoms::evaluable::{Binary, Unary};
 use plcells::cell::Cell;
 use plterm::indicator::Indicator;
 use plterm::name::Name;
@@ -55,25 +55,5 @@ impl Opened {
         let name = name.copied()?;
         let indicator = Indicator { name, arity };
         Ok(Opened::Known(Err(ArithError::NotEvaluable(indicator))))
-    }
-
-    /// A compound of one argument.
-    pub fn of_one(name: &Name, argument: Operand) -> Result<Opened, AllocError>
-        ensures { IfOk result (λ o. o ≡ seen_one name.now argument) }
-    {
-        match Unary::of_name(name.as_str()) {
-            Some(f) => Ok(Opened::One(f, argument)),
-            None => Opened::unknown(name, 1),
-        }
-    }
-
-    /// A compound of two arguments.
-    pub fn of_two(name: &Name, left: Operand, right: Operand) -> Result<Opened, AllocError>
-        ensures { IfOk result (λ o. o ≡ seen_two name.now left right) }
-    {
-        match Binary::of_name(name.as_str()) {
-            Some(f) => Ok(Opened::Two(f, left, right)),
-            None => Opened::unknown(name, 2),
-        }
     }
 }

@@ -8,6 +8,7 @@ ghost use Rattle.plarith.specs.Values.{IsOperand, tree};
 use crate::error::{ArithError, Evaluated};
 use crate::evaluate::evaluate;
 use crate::operand::{Opened, Operand, Operands};
+use platoms::evaluable::Operation;
 use plcells::cell::Cell;
 use plcells::heap::Heap;
 use plcells::id::CellId;
@@ -20,16 +21,20 @@ fn open_block(heap: &Heap, p: CellId) -> Result<Opened, AllocError>
     ensures { IfOk result (Opens (tree heap.now) (IsOperand heap.now) (term heap.now p)) }
 {
     let (f, arity) = heap.block(p);
-    let functor = heap.names().functor_of(f);
-    let name = heap.names().atom_name(functor.name);
-    match arity {
-        1 => Opened::of_one(name, Operand::Value(heap.argument(p.arg(1)))),
-        2 => {
+    match heap.names().operation(f) {
+        Some(Operation::One(f)) => {
+            let argument = Operand::Value(heap.argument(p.arg(1)));
+            Ok(Opened::One(f, argument))
+        }
+        Some(Operation::Two(f)) => {
             let left = Operand::Value(heap.argument(p.arg(1)));
             let right = Operand::Value(heap.argument(p.arg(2)));
-            Opened::of_two(name, left, right)
+            Ok(Opened::Two(f, left, right))
         }
-        _ => Opened::unknown(name, arity),
+        None => {
+            let functor = heap.names().functor_of(f);
+            Opened::unknown(heap.names().atom_name(functor.name), arity)
+        }
     }
 }
 

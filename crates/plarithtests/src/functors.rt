@@ -1,5 +1,6 @@
 //! The evaluable functors by their names.
-use plarith::functor::{Binary, Unary};
+use plarith::{binary, unary};
+use platoms::evaluable::{Binary, Unary};
 use std::test::Fail;
 
 /// A name, an integer, and what the functor of one argument with that name gives for it, if it is evaluable (9.1, 9.3, 9.4).
@@ -17,7 +18,7 @@ const UNARY: [(&str, i64, Option<i64>); 9] = [
 
 /// What the functor of one argument with a name gives.
 fn of_one(name: &str, x: i64) -> Option<i64> {
-    match Unary::of_name(name)?.apply(x) {
+    match unary::apply(Unary::of_name(name)?, x) {
         Ok(value) => Some(value),
         Err(_) => None,
     }
@@ -56,7 +57,7 @@ const BINARY: [(&str, i64, i64, Option<i64>); 19] = [
 
 /// What the functor of two arguments with a name gives.
 fn of_two(name: &str, x: i64, y: i64) -> Option<i64> {
-    match Binary::of_name(name)?.apply(x, y) {
+    match binary::apply(Binary::of_name(name)?, x, y) {
         Ok(value) => Some(value),
         Err(_) => None,
     }

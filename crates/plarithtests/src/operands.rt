@@ -7,6 +7,7 @@ use crate::operations::{one, shown, two};
 use plarith::evaluate::evaluate;
 use plarith::operand::{Opened, Operand};
 use plarith::value::open_value;
+use plarith::{binary, unary};
 use platoms::names::Names;
 use plcells::cell::Cell;
 use plcells::heap::Heap;
@@ -61,11 +62,11 @@ fn told(alloc: Global, opened: &Opened) -> Result<String, AllocError> {
     match opened {
         Opened::Known(found) => shown(alloc, found),
         Opened::One(f, _) => {
-            let value = shown(alloc, &f.apply(7))?;
+            let value = shown(alloc, &unary::apply(*f, 7))?;
             format!(in alloc; "one, {value}")
         }
         Opened::Two(f, _, _) => {
-            let value = shown(alloc, &f.apply(7, 2))?;
+            let value = shown(alloc, &binary::apply(*f, 7, 2))?;
             format!(in alloc; "two, {value}")
         }
     }

@@ -1,3 +1,4 @@
 mod Tables
 mod Copying
+mod Growing
 pub mod Extending

@@ -1,5 +1,5 @@
 -- A name that is looked up, and put behind the others where it is new.
-use Rattle.std.proofs.Common.{◌≡◌, ℕ, zero, suc, ◌<◌, ◌≤◌, ◌==◌, eqb-true, eq-eqb, ap₂, Bool, true, false, ◌&&◌, ◌||◌, List, [], ◌∷◌, ◌++◌, length, length-append, get_or, Some, refl, sym, ap, ◌∙◌, subst, arith, inl, inr, if◌then◌else◌}
+use Rattle.std.proofs.Common.{◌≡◌, ℕ, zero, suc, ◌+◌, ◌<◌, ◌≤◌, ◌==◌, eqb-true, eq-eqb, ap₂, Bool, true, false, ◌&&◌, ◌||◌, List, [], ◌∷◌, ◌++◌, length, length-append, get_or, Some, refl, sym, ap, ◌∙◌, subst, arith, inl, inr, if◌then◌else◌}
 use Rattle.std.specs.Bool.{Decides}
 use Rattle.std.specs.List.{list_any, slice_get}
 use Rattle.std.proofs.lemmas.Bool.{cases_lt}
@@ -61,6 +61,19 @@ module _ {X : Type 0} (eq : X → X → Bool) (decides : (x y : X) → Decides (
 
   pub insert_all_fit : (P : X → Type 0) (xs : List X) (x : X) → ((i : ℕ) → i < length xs → P (get_or xs i d)) → P x → (i : ℕ) → i < length (insert_key eq xs x) → P (get_or (insert_key eq xs x) i d)
   insert_all_fit P xs x all here = by_case (λ ys. (i : ℕ) → i < length ys → P (get_or ys i d)) (list_any (eq x) xs) xs x all (λ none. all-push P xs x all here)
+
+  -- what stands at a place stays there
+  pub insert_keeps : (xs : List X) (x : X) (i : ℕ) → i < length xs → get_or (insert_key eq xs x) i d ≡ get_or xs i d
+  insert_keeps xs x i lt = by_case (λ ys. get_or ys i d ≡ get_or xs i d) (list_any (eq x) xs) xs x refl (λ none. get_or_append_left xs (x ∷ []) d i lt)
+
+  -- what makes them more stands behind the others, and what does not was there
+  pub insert_new : (xs : List X) (x : X) (b : Bool) → length (insert_key eq xs x) ≡ length xs + (if b then 1 else 0) → b ≡ true → insert_key eq xs x ≡ xs ++ x ∷ []
+  insert_new xs x true e is = by_case (λ ys. length ys ≡ length xs + 1 → ys ≡ xs ++ x ∷ []) (list_any (eq x) xs) xs x (λ h. absurd (omega (arith, h))) (λ none h. refl) e
+  insert_new xs x false e is = absurd (cc)
+
+  pub insert_same : (xs : List X) (x : X) (b : Bool) → length (insert_key eq xs x) ≡ length xs + (if b then 1 else 0) → b ≡ false → insert_key eq xs x ≡ xs
+  insert_same xs x false e is = by_case (λ ys. length ys ≡ length xs + 0 → ys ≡ xs) (list_any (eq x) xs) xs x (λ h. refl) (λ none h. absurd (omega (arith, h, length-append xs (x ∷ [])))) e
+  insert_same xs x true e is = absurd (cc)
 
   pub insert_longer : (xs : List X) (x : X) → length xs ≤ length (insert_key eq xs x)
   insert_longer xs x = by_case (λ ys. length xs ≤ length ys) (list_any (eq x) xs) xs x (omega arith) (λ none. omega (arith, length-append xs (x ∷ [])))

@@ -1,1 +1,2 @@
+pub mod Evaluable
 pub mod Names

@@ -1,7 +1,9 @@
 -- Names by number.
-use Rattle.std.specs.Prelude.{◌≡◌, ℕ, ◌<◌, ◌≤◌, List, [], length, take, get_or}
+use Rattle.std.specs.Prelude.{◌≡◌, ℕ, ◌<◌, ◌≤◌, List, [], length, take, get_or, Option, None}
 use Rattle.plterm.specs.Reading.{IsName}
+use Rattle.platoms.specs.declared.evaluable.Operation.{Operation}
 use Rattle.platoms.specs.declared.names.Functor.{Functor}
+use Rattle.platoms.specs.Evaluable.{operation_of}
 
 -- the names of atoms and the functors, each at its number
 pub record Table : Type 0 where
@@ -20,6 +22,10 @@ functor_name t f = atom_at t ((functor_at t f).name)
 
 abbrev pub functor_arity : Table → ℕ → ℕ
 functor_arity t f = (functor_at t f).arity
+
+-- what a functor evaluates to, if it is evaluable
+abbrev pub operation_at : Table → ℕ → Option Operation
+operation_at t f = operation_of (functor_name t f) (functor_arity t f)
 
 -- a functor of the table's names, with 1 to 1,024 arguments
 pub record IsFunctor (t : Table) (k : Functor) : Type 0 where
@@ -46,3 +52,8 @@ pub record HasAtom (t : Table) (a : ℕ) (name : List ℕ) : Type 0 where
 pub record HasFunctor (t : Table) (f : ℕ) (k : Functor) : Type 0 where
   pub within : f < length t.functors
   pub is : functor_at t f ≡ k
+
+-- each functor's operation stands at its number
+pub record Evaluates (t : Table) (operations : List (Option Operation)) : Type 0 where
+  pub count : length operations ≡ length t.functors
+  pub each : (f : ℕ) → f < length t.functors → get_or operations f None ≡ operation_at t f

@@ -1,9 +1,10 @@
 //! The table of names.
 
-ghost use Rattle.std.specs.Prelude.{◌≡◌, ◌<◌, ◌≤◌, [], length, IfOk, IfSome, OnOk, OnErr};
+ghost use Rattle.std.specs.Prelude.{◌≡◌, ◌<◌, ◌≤◌, ◌-◌, ◌^◌, [], length, IfOk, IfSome, OnOk, OnErr};
 ghost use Rattle.plterm.specs.Reading.{IsName};
-ghost use Rattle.platoms.specs.Names.{Table, IsTable, IsFunctor, Extends, HasAtom, HasFunctor, atom_at, functor_at};
+ghost use Rattle.platoms.specs.Names.{Table, IsTable, IsFunctor, Extends, HasAtom, HasFunctor, atom_at, functor_at, operation_at};
 
+use crate::evaluable::Operation;
 use indexmap::IndexSet;
 use plterm::name::Name;
 use std::alloc::{AllocError, Global};
@@ -24,19 +25,21 @@ const RECENT: usize = 64;
 pub struct Names {
     atoms: IndexSet<Name>,
     functors: IndexSet<Functor>,
+    /// What each functor evaluates to, if it is evaluable.
+    operations: Vec<Option<Operation>>,
     /// Numbers of names and of functors that were asked for lately, by their places. Nothing but time depends on them.
     recent_atoms: [u32; RECENT],
     recent_functors: [u32; RECENT],
 }
 
 impl Model for Names {
-    ghost use Rattle.platoms.specs.Names.{Table, IsTable};
+    ghost use Rattle.platoms.specs.Names.{Table, IsTable, Evaluates};
 
     ghost Value = { Table };
 
     ghost view = { λ a. record { atoms = a.atoms.keys; functors = a.functors.keys } };
 
-    ghost invariant = { λ a. IsTable (record { atoms = a.atoms.keys; functors = a.functors.keys }) };
+    ghost invariant = { λ a. IsTable (record { atoms = a.atoms.keys; functors = a.functors.keys }) × Evaluates (record { atoms = a.atoms.keys; functors = a.functors.keys }) a.operations.items };
 }
 
 /// The same names in the same order, in time linear in them.
@@ -92,6 +95,7 @@ impl Names {
         Names {
             atoms: IndexSet::new(alloc),
             functors: IndexSet::new(alloc),
+            operations: Vec::new(alloc),
             recent_atoms: [0; RECENT],
             recent_functors: [0; RECENT],
         }
@@ -104,9 +108,11 @@ impl Names {
     {
         let atoms = copied_atoms(alloc, &self.atoms)?;
         let functors = copied_functors(alloc, &self.functors)?;
+        let operations = self.operations.to_vec(alloc)?;
         Ok(Names {
             atoms,
             functors,
+            operations,
             recent_atoms: self.recent_atoms,
             recent_functors: self.recent_functors,
         })
@@ -185,9 +191,35 @@ impl Names {
         if self.functors.len() >= u32::MAX as usize {
             return Err(AllocError);
         }
-        let (place, _) = self.functors.insert_full(functor)?;
-        self.recent_functors[recent] = place as u32;
-        Ok(place as u32)
+        let f = self.functor_in(functor)?;
+        self.recent_functors[recent] = f;
+        Ok(f)
+    }
+
+    /// The number of a functor, looked for in the whole table, which is not full.
+    fn functor_in(&mut self, functor: Functor) -> Result<u32, AllocError>
+        requires fits { IsFunctor self.old functor }
+        requires room { length self.old.functors < 2 ^ 32 - 1 }
+        ensures is { IfOk result (λ f. HasFunctor self.new f functor) }
+        ensures extends { Extends self.old self.new }
+        ensures atoms { self.new.atoms ≡ self.old.atoms }
+        ensures table { IsTable self.new }
+        ensures err { OnErr result (self.new ≡ self.old) }
+    {
+        let name = self.atom_name(functor.name);
+        let operation = Operation::of(name.as_str(), functor.arity);
+        self.operations.push(operation)?;
+        match self.functors.insert_full(functor) {
+            Ok((place, true)) => Ok(place as u32),
+            Ok((place, false)) => {
+                self.operations.pop();
+                Ok(place as u32)
+            }
+            Err(_) => {
+                self.operations.pop();
+                Err(AllocError)
+            }
+        }
     }
 
     /// The name with a number.
@@ -213,5 +245,13 @@ impl Names {
             unreachable!()
         };
         *functor
+    }
+
+    /// What the functor with a number evaluates to, if it is evaluable.
+    pub fn operation(&self, f: u32) -> Option<Operation>
+        requires { f < length self.now.functors }
+        ensures { result ≡ operation_at self.now f }
+    {
+        self.operations[f as usize]
     }
 }

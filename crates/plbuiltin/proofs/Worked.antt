@@ -24,7 +24,7 @@ use Rattle.plbuiltin.specs.Order.{stand, compare, on_order}
 use Rattle.plnames.specs.declared.kind.Tests.TheVariants.{Variable, Bound, Atom, Integer, Atomic, Compound, Callable, ProperList}
 use Rattle.plnames.specs.declared.kind.Comparison.TheVariants.{Equal, Unequal, Less, AtMost, Greater, AtLeast}
 use Rattle.plnames.specs.declared.kind.Arithmetic.TheVariants.{Is, Compare}
-use Rattle.plarith.specs.Functors.{binary_of, binary_rows}
+use Rattle.platoms.specs.Evaluable.{binary_of}
 use Rattle.plarith.specs.Evaluation.{eval}
 use Rattle.plbuiltin.specs.Lists.{elements_of}
 use Rattle.plbuiltin.specs.Tests.{holds}
@@ -164,24 +164,24 @@ at_least = refl
 
 module _ (s : Settings) where
   quotient : on_arithmetic Is (var 0 ∷ two (codes "//") (int (pos 7)) (int (negsuc 1)) ∷ []) s ≡ unifies (var 0) (int (negsuc 2)) s
-  unfolding two eval binary_of binary_rows
+  unfolding two eval binary_of
   quotient = refl
 
   modulo : on_arithmetic Is (foo ∷ two (codes "mod") (int (negsuc 6)) (int (pos 2)) ∷ []) s ≡ unifies foo (int (pos 1)) s
-  unfolding two eval binary_of binary_rows
+  unfolding two eval binary_of
   modulo = refl
 
   overflow : on_arithmetic Is (var 0 ∷ two (codes "+") (int (pos 9223372036854775807)) (int (pos 1)) ∷ []) s ≡ Raises (evaluation_error (codes "int_overflow"))
-  unfolding two eval binary_of binary_rows
+  unfolding two eval binary_of
   overflow = refl
 
   -- a functor that is not evaluable is told before a variable to its right
   no_functor : on_arithmetic Is (var 0 ∷ two (codes "+") foo (var 1) ∷ []) s ≡ Raises (type_error (codes "evaluable") (indicator_term (record { name = codes "foo"; arity = 0 })))
-  unfolding two foo eval binary_of binary_rows
+  unfolding two foo eval binary_of
   no_functor = refl
 
   comparison : on_arithmetic (Compare Less) (int (pos 1) ∷ two (codes "*") (int (pos 1)) (int (pos 2)) ∷ []) s ≡ decides true s
-  unfolding two eval binary_of binary_rows
+  unfolding two eval binary_of
   comparison = refl
 
   -- the left one comes first
@@ -190,7 +190,7 @@ module _ (s : Settings) where
   left_error = refl
 
   right_error : on_arithmetic (Compare Equal) (int (pos 0) ∷ two (codes "//") (int (pos 1)) (int (pos 0)) ∷ []) s ≡ Raises (evaluation_error (codes "zero_divisor"))
-  unfolding two eval binary_of binary_rows
+  unfolding two eval binary_of
   right_error = refl
 
 -- ---- the order of terms

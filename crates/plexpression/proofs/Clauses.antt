@@ -1,12 +1,16 @@
 -- The terms of clauses as expressions.
-use Rattle.std.proofs.Common.{◌≡◌, ℕ, zero, suc, ◌+◌, ◌<◌, ◌≤◌, List, [], ◌∷◌, length, refl, sym, ap, ap₂, ◌∙◌, subst, arith, inl, inr, ℤ, Ok, Some}
+use Rattle.std.proofs.Common.{◌≡◌, ℕ, zero, suc, ◌+◌, ◌<◌, ◌≤◌, List, [], ◌∷◌, length, refl, sym, ap, ap₂, ◌∙◌, subst, arith, inl, inr, ℤ, Ok, Option, Some, None}
 use Rattle.std.proofs.lemmas.Bool.{cases_lt}
 use Rattle.std.proofs.lemmas.List.Elements.{All-nil, All-cons, All-head, All-tail}
 use Rattle.plterm.specs.Tree.{Tree, Trees, var, int, atom, compound, none, more, trees, list_of, trees-list_of}
 use Rattle.plterm.proofs.Forests.{list_of-trees}
 use Rattle.plterm.specs.Variables.{AllBelow, EachBelow}
 use Rattle.plsubst.specs.Subst.{bind, bind_all}
-use Rattle.platoms.specs.Names.{Table, functor_arity, functor_name}
+use Rattle.platoms.specs.declared.evaluable.Binary.{Binary}
+use Rattle.platoms.specs.declared.evaluable.Operation.{Operation}
+use Rattle.platoms.specs.declared.evaluable.Operation.TheVariants as ops
+use Rattle.platoms.specs.Evaluable.{binary_of, operation_of}
+use Rattle.platoms.specs.Names.{Table, functor_arity, functor_name, operation_at}
 use Rattle.plcells.specs.Store.{spread}
 use Rattle.plcode.specs.declared.node.Node.{Node}
 use Rattle.plcode.specs.declared.node.Node.TheVariants as node
@@ -20,15 +24,13 @@ use Rattle.plhead.proofs.Trees.{length-spread, tree-at, named-at, compound-at}
 use Rattle.plarith.specs.declared.operand.Operand.TheVariants as operands
 use Rattle.plarith.specs.declared.operand.Opened.{Opened}
 use Rattle.plarith.specs.declared.operand.Opened.TheVariants.{Known, One, Two}
-use Rattle.plarith.specs.declared.functor.Binary.{Binary}
 use Rattle.plarith.specs.Evaluation.{by_two, eval, not_evaluable}
-use Rattle.plarith.specs.Functors.{binary_of}
 use Rattle.plarith.specs.Operations.{binary}
 use Rattle.plarith.specs.Operands.{Opens}
 use Rattle.plarith.specs.Values.{IsOperand as IsHeapOperand, tree as heap_tree}
-use Rattle.plarith.proofs.Opening.{opens_integer, opens_atom, opens_one, opens_two, opens_many}
+use Rattle.plarith.proofs.Opening.{is_one, is_two, opens_integer, opens_atom, opens_one, opens_two, opens_none}
 use Rattle.plexpression.specs.declared.pair.Pair.{Pair}
-use Rattle.plexpression.specs.Nodes.{IsNode, IsOperand, IsPair, tree, seen_block}
+use Rattle.plexpression.specs.Nodes.{IsNode, IsOperand, IsPair, tree, seen_by, seen_block}
 
 length-bind_all : (σ : ℕ → Tree) (ts : Trees) → length (list_of (bind_all σ ts)) ≡ length (list_of ts)
 unfolding bind
@@ -100,24 +102,27 @@ module _ (e : Env) (nodes : List Node) (base : ℕ) where
   pub compound_there : (at from root : ℕ) → IsNode e nodes base at → node_at nodes at ≡ node.Sub from root → IsCompoundAt e.heap.names nodes root (tree_at e.heap.names nodes at)
   compound_there at from root is here = compound-at e.heap.names nodes is.laid.sound is.laid.packed at from root is.within here
 
-  -- by how many arguments there are
-  by_arity : (root k : ℕ) (name : List ℕ) (t : Tree) → t ≡ bind (over e base) (compound name (trees (spread (tree_at e.heap.names nodes) (suc root) k))) → ((j : ℕ) → root < j → j ≤ root + k → IsNode e nodes base j) →
-      Opens (tree e nodes base) (IsOperand e nodes base) t (seen_block name k root)
+  -- by what its functor evaluates to
+  by_operation : (root k : ℕ) (name : List ℕ) (t : Tree) → t ≡ bind (over e base) (compound name (trees (spread (tree_at e.heap.names nodes) (suc root) k))) → ((j : ℕ) → root < j → j ≤ root + k → IsNode e nodes base j) → (o : Option Operation) → operation_of name k ≡ o →
+      Opens (tree e nodes base) (IsOperand e nodes base) t (seen_by o name k root)
   unfolding bind
-  by_arity root zero name t is each = opens_many (tree e nodes base) (IsOperand e nodes base) t name [] 0 is refl (λ h. omega arith) (λ h. omega arith)
-  by_arity root (suc zero) name t is each =
+  by_operation root k name t is each None none =
+      let us = spread (tree_at e.heap.names nodes) (suc root) k in
+      let bound = bind_all (over e base) (trees us) in
+      opens_none (tree e nodes base) (IsOperand e nodes base) t name (list_of bound) k (is ∙ ap (compound name) (sym (trees-list_of bound)))
+      (length-bind_all (over e base) (trees us) ∙ ap length (list_of-trees us) ∙ length-spread (tree_at e.heap.names nodes) k (suc root)) none
+  by_operation root k name t is each (Some (ops.One f)) known =
+      let one = is_one name k f known in
       let first = ap (λ j. tree e nodes base (operands.Node j)) (next root) in
-      opens_one (tree e nodes base) (IsOperand e nodes base) t name (operands.Node (root + 1)) (is ∙ ap (λ u. compound name (more u none)) first) (each (root + 1) (omega arith) (omega arith))
-  by_arity root (suc (suc zero)) name t is each =
+      let shown = ap (λ i. bind (over e base) (compound name (trees (spread (tree_at e.heap.names nodes) (suc root) i)))) one.0 in
+      opens_one (tree e nodes base) (IsOperand e nodes base) t name f (operands.Node (root + 1)) one.1 (is ∙ shown ∙ ap (λ u. compound name (more u none)) first) (each (root + 1) (omega arith) (omega (arith, one.0)))
+  by_operation root k name t is each (Some (ops.Two f)) known =
+      let two = is_two name k f known in
       let first = ap (λ j. tree e nodes base (operands.Node j)) (next root) in
       let second = ap (λ j. tree e nodes base (operands.Node j)) (after_next root) in
-      opens_two (tree e nodes base) (IsOperand e nodes base) t name (operands.Node (root + 1)) (operands.Node (root + 2)) (is ∙ ap₂ (λ u v. compound name (more u (more v none))) first second) (each (root + 1) (omega arith) (omega arith))
-      (each (root + 2) (omega arith) (omega arith))
-  by_arity root (suc (suc (suc k))) name t is each =
-      let us = spread (tree_at e.heap.names nodes) (suc root) (suc (suc (suc k))) in
-      let bound = bind_all (over e base) (trees us) in
-      opens_many (tree e nodes base) (IsOperand e nodes base) t name (list_of bound) (suc (suc (suc k))) (is ∙ ap (compound name) (sym (trees-list_of bound)))
-      (length-bind_all (over e base) (trees us) ∙ ap length (list_of-trees us) ∙ length-spread (tree_at e.heap.names nodes) (suc (suc (suc k))) (suc root)) (λ h. omega arith) (λ h. omega arith)
+      let shown = ap (λ i. bind (over e base) (compound name (trees (spread (tree_at e.heap.names nodes) (suc root) i)))) two.0 in
+      opens_two (tree e nodes base) (IsOperand e nodes base) t name f (operands.Node (root + 1)) (operands.Node (root + 2)) two.1 (is ∙ shown ∙ ap₂ (λ u v. compound name (more u (more v none))) first second) (each (root + 1) (omega arith) (omega (arith, two.0)))
+      (each (root + 2) (omega arith) (omega (arith, two.0)))
 
   -- the arguments of a compound
   pub argument_there : (at root : ℕ) → IsNode e nodes base at → (c : IsCompoundAt e.heap.names nodes root (tree_at e.heap.names nodes at)) → (j : ℕ) → root < j → j ≤ root + c.arity → IsNode e nodes base j
@@ -132,7 +137,9 @@ module _ (e : Env) (nodes : List Node) (base : ℕ) where
 
   pub opens_compound : (at root : ℕ) → IsNode e nodes base at → (c : IsCompoundAt e.heap.names nodes root (tree_at e.heap.names nodes at)) →
       Opens (tree e nodes base) (IsOperand e nodes base) (tree e nodes base (operands.Node at)) (seen_block (functor_name e.heap.names c.functor) c.arity root)
-  opens_compound at root is c = by_arity root c.arity (functor_name e.heap.names c.functor) (tree e nodes base (operands.Node at)) (ap (bind (over e base)) c.is) (argument_there at root is c)
+  opens_compound at root is c = 
+      let name = functor_name e.heap.names c.functor in
+      by_operation root c.arity name (tree e nodes base (operands.Node at)) (ap (bind (over e base)) c.is) (argument_there at root is c) (operation_of name c.arity) refl
 
   -- a compound of two arguments, by its block
   pub pair_there : (at from root f : ℕ) → IsNode e nodes base at → node_at nodes at ≡ node.Sub from root → node_at nodes root ≡ node.Fun f 2 → IsPair e nodes base at (record { functor = f; left = root + 1; right = root + 2 })
@@ -176,11 +183,12 @@ module _ (e : Env) (nodes : List Node) (base : ℕ) where
       go (node.Sub from root) here w = absurd (other from root here)
 
 -- an operation of two numbers
-pub of-pair : (e : Env) (nodes : List Node) (base at : ℕ) (p : Pair) → IsPair e nodes base at p → (f : Binary) (x y : ℤ) → binary_of (functor_name e.heap.names p.functor) ≡ Some f →
+pub of-pair : (e : Env) (nodes : List Node) (base at : ℕ) (p : Pair) → IsPair e nodes base at p → (f : Binary) (x y : ℤ) → operation_at e.heap.names p.functor ≡ Some (ops.Two f) →
     tree e nodes base (operands.Node p.left) ≡ int x → tree e nodes base (operands.Node p.right) ≡ int y → eval (tree e nodes base (operands.Node at)) ≡ binary f x y
 unfolding bind eval
 of-pair e nodes base at p is f x y known left right =
     let name = functor_name e.heap.names p.functor in
+    let two = is_two name 2 f (sym (ap (operation_of name) is.arity) ∙ known) in
     ap (λ t. eval (bind (over e base) t)) is.is
     ∙ ap₂ (λ u v. by_two (binary_of name) name (eval u) (eval v)) left right
-    ∙ ap (λ o. by_two o name (Ok x) (Ok y)) known
+    ∙ ap (λ o. by_two o name (Ok x) (Ok y)) two.1

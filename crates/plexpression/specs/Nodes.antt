@@ -1,6 +1,9 @@
 -- The nodes of a compiled clause as operands.
-use Rattle.std.specs.Prelude.{◌≡◌, ℕ, zero, suc, ◌+◌, ◌<◌, List, [], ◌∷◌, length, ◌⊎◌}
+use Rattle.std.specs.Prelude.{◌≡◌, ℕ, ◌+◌, ◌<◌, List, [], ◌∷◌, length, Option, Some, None, ◌⊎◌}
 use Rattle.plterm.specs.Tree.{Tree, var, compound, trees}
+use Rattle.platoms.specs.declared.evaluable.Operation.{Operation}
+use Rattle.platoms.specs.declared.evaluable.Operation.TheVariants as ops
+use Rattle.platoms.specs.Evaluable.{operation_of}
 use Rattle.platoms.specs.Names.{functor_arity, functor_name}
 use Rattle.plsubst.specs.Subst.{bind}
 use Rattle.plcells.specs.Store.{IsValue, value}
@@ -13,9 +16,8 @@ use Rattle.plenv.specs.Rows.{tree_at}
 use Rattle.plarith.specs.declared.operand.Operand.{Operand}
 use Rattle.plarith.specs.declared.operand.Operand.TheVariants as operands
 use Rattle.plarith.specs.declared.operand.Opened.{Opened}
-use Rattle.plarith.specs.declared.operand.Opened.TheVariants.{Known}
+use Rattle.plarith.specs.declared.operand.Opened.TheVariants.{Known, One, Two}
 use Rattle.plarith.specs.Evaluation.{not_evaluable}
-use Rattle.plarith.specs.Operands.{seen_one, seen_two}
 use Rattle.plexpression.specs.declared.pair.Pair.{Pair}
 
 -- a node that stands for a term alone, whose variables have slots from a place on
@@ -33,12 +35,14 @@ abbrev pub tree : Env → List Node → ℕ → Operand → Tree
 tree e nodes base (operands.Value v) = value e.heap v
 tree e nodes base (operands.Node at) = bind (over e base) (tree_at e.heap.names nodes at)
 
--- what the compound of so many arguments is seen to be whose block stands at a place
+-- what the compound is seen to be whose block, of a functor with such a name and so many arguments, stands at a place
+abbrev pub seen_by : Option Operation → List ℕ → ℕ → ℕ → Opened
+seen_by (Some (ops.One f)) name k root = One f (operands.Node (root + 1))
+seen_by (Some (ops.Two f)) name k root = Two f (operands.Node (root + 1)) (operands.Node (root + 2))
+seen_by None name k root = Known (not_evaluable name k)
+
 abbrev pub seen_block : List ℕ → ℕ → ℕ → Opened
-seen_block name zero root = Known (not_evaluable name 0)
-seen_block name (suc zero) root = seen_one name (operands.Node (root + 1))
-seen_block name (suc (suc zero)) root = seen_two name (operands.Node (root + 1)) (operands.Node (root + 2))
-seen_block name (suc (suc (suc k))) root = Known (not_evaluable name (suc (suc (suc k))))
+seen_block name k root = seen_by (operation_of name k) name k root
 
 -- a compound of two arguments, each a node that stands for a term alone
 pub record IsPair (e : Env) (nodes : List Node) (base at : ℕ) (p : Pair) : Type 0 where

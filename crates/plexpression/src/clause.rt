@@ -15,11 +15,12 @@ ghost use Rattle.plexpression.specs.Nodes.{IsOperand, IsNode, tree, seen_block};
 
 use crate::number::integer_at;
 use crate::standing::{as_it_stands, number_at};
+use plarith::binary;
 use plarith::error::{ArithError, Evaluated};
 use plarith::evaluate::evaluate;
-use plarith::functor::Binary;
 use plarith::operand::{Opened, Operand, Operands};
 use plarith::value::open_value;
+use platoms::evaluable::{Binary, Operation};
 use plcode::node::Node;
 use plenv::env::Environment;
 use plenv::slot::Slot;
@@ -46,11 +47,14 @@ fn open_block(env: &Environment, nodes: &[Node], root: u32) -> Result<Opened, Al
         unreachable!()
     };
     let names = env.heap().names();
-    let name = names.atom_name(names.functor_of(f).name);
-    match arity {
-        1 => Opened::of_one(name, Operand::Node(root + 1)),
-        2 => Opened::of_two(name, Operand::Node(root + 1), Operand::Node(root + 2)),
-        _ => Opened::unknown(name, arity),
+    match names.operation(f) {
+        Some(Operation::One(f)) => Ok(Opened::One(f, Operand::Node(root + 1))),
+        Some(Operation::Two(f)) => {
+            let left = Operand::Node(root + 1);
+            let right = Operand::Node(root + 2);
+            Ok(Opened::Two(f, left, right))
+        }
+        None => Opened::unknown(names.atom_name(names.functor_of(f).name), arity),
     }
 }
 
@@ -110,7 +114,7 @@ fn of_numbers(terms: &ClauseTerms, f: Binary, left: Operand, right: Operand) -> 
 {
     let x = terms.number(&left)?;
     let y = terms.number(&right)?;
-    Some(f.apply(x, y))
+    Some(binary::apply(f, x, y))
 }
 
 /// What an operand comes to that is no operation, or one of two numbers as they stand.
@@ -132,7 +136,7 @@ fn of_simple(terms: &ClauseTerms, operand: Operand) -> Result<Option<Evaluated>,
 fn joined(f: Binary, left: Evaluated, right: Evaluated) -> Evaluated
     ensures { result ≡ with_two f left right }
 {
-    f.apply(left?, right?)
+    binary::apply(f, left?, right?)
 }
 
 /// What an operation comes to whose operands are simple.

@@ -1,18 +1,19 @@
 //! Expressions of a clause that are numbers as they stand, or operations of two such: most are.
-ghost use Rattle.std.specs.Prelude.{◌≡◌, ◌<◌, length, IfSome};
+ghost use Rattle.std.specs.Prelude.{◌≡◌, ◌<◌, Some, length, IfSome};
 ghost use Rattle.plterm.specs.Tree.{int};
 ghost use Rattle.plsubst.specs.Subst.{bind};
-ghost use Rattle.platoms.specs.Names.{functor_name};
+ghost use Rattle.platoms.specs.declared.evaluable.Operation.TheVariants.{Two};
+ghost use Rattle.platoms.specs.Names.{operation_at};
 ghost use Rattle.plenv.specs.Env.{over, variable};
 ghost use Rattle.plenv.specs.Rows.{tree_at};
 ghost use Rattle.plarith.specs.Evaluation.{eval};
-ghost use Rattle.plarith.specs.Functors.{binary_of};
 ghost use Rattle.plexpression.specs.Nodes.{IsNode};
 
 use crate::number::integer_at;
 use crate::pair::pair_at;
+use plarith::binary;
 use plarith::error::Evaluated;
-use plarith::functor::Binary;
+use platoms::evaluable::{Binary, Operation};
 use plcode::node::Node;
 use plenv::env::Environment;
 use plenv::slot::Slot;
@@ -41,13 +42,14 @@ pub(crate) fn number_at(env: &Environment, nodes: &[Node], at: u32, base: u32) -
 }
 
 /// The operation of a functor of two arguments, by its number, if it is evaluable.
-fn operation_of(env: &Environment, functor: u32) -> Option<Binary>
+fn binary_at(env: &Environment, functor: u32) -> Option<Binary>
     requires { functor < length env.now.heap.names.functors }
-    ensures { result ≡ binary_of (functor_name env.now.heap.names functor) }
+    ensures { IfSome result (λ f. operation_at env.now.heap.names functor ≡ Some (Two f)) }
 {
-    let names = env.heap().names();
-    let name = names.atom_name(names.functor_of(functor).name);
-    Binary::of_name(name.as_str())
+    match env.heap().names().operation(functor)? {
+        Operation::Two(f) => Some(f),
+        Operation::One(_) => None,
+    }
 }
 
 /// What an operation comes to whose operands are numbers as they stand.
@@ -56,10 +58,10 @@ fn of_pair(env: &Environment, nodes: &[Node], at: u32, base: u32) -> Option<Eval
     ensures { IfSome result (λ found. found ≡ eval (bind (over env.now base) (tree_at env.now.heap.names nodes.now at))) }
 {
     let pair = pair_at(nodes, at)?;
-    let f = operation_of(env, pair.functor)?;
+    let f = binary_at(env, pair.functor)?;
     let x = number_at(env, nodes, pair.left, base)?;
     let y = number_at(env, nodes, pair.right, base)?;
-    Some(f.apply(x, y))
+    Some(binary::apply(f, x, y))
 }
 
 /// What an expression comes to that is a number as it stands, or an operation of two such.

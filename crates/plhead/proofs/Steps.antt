@@ -110,9 +110,9 @@ module _ (old e : Env) (base : ℕ) (nodes : List Node) (laid : IsLaid old.heap.
   never new is = λ start s t come.
       never-solved start e new base (tree_at old.heap.names nodes) nodes s t work rest p taken left_over (on.progress start s t come) (none-then old e nodes laid keeps base p is)
 
-  module _ (new : Env) (list after : List (ℕ × Cell)) (r : Reduces e new base nodes (tree_at e.heap.names nodes) p list after) where
-    reduces : Reduces e new base nodes (tree_at old.heap.names nodes) p list after
-    reduces = reduces-then old e nodes laid keeps new base p list after r
+  module _ (new : Env) (after : List (ℕ × Cell)) (r : Reduces e new base nodes (tree_at e.heap.names nodes) p rest after) where
+    reduces : Reduces e new base nodes (tree_at old.heap.names nodes) p rest after
+    reduces = reduces-then old e nodes laid keeps new base p rest after r
 
     onward-last : Onward old new base nodes (tree_at old.heap.names nodes) before (rest ++ reduces.added)
     onward-last =
@@ -122,12 +122,8 @@ module _ (old e : Env) (base : ℕ) (nodes : List Node) (laid : IsLaid old.heap.
           progress = λ start s t come. came-on start e new base w nodes s t work rest p taken left_over (on.progress start s t come) reduces.added reduces.progress;
         }
 
-    -- the list held all those that are left
-    pub onward : list ≡ rest → Onward old new base nodes (tree_at old.heap.names nodes) before after
-    onward is =
-        let items = reduces.items ∙ ap (λ ps. ps ++ reduces.added) is in
-        subst (Onward old new base nodes (tree_at old.heap.names nodes) before) (sym items) onward-last
+    pub onward : Onward old new base nodes (tree_at old.heap.names nodes) before after
+    onward = subst (Onward old new base nodes (tree_at old.heap.names nodes) before) (sym reduces.items) onward-last
 
-    pub lighter : list ≡ rest → weigh (tree_at old.heap.names nodes) after < weigh (tree_at old.heap.names nodes) work
-    lighter is =
-        reduced-lighter (tree_at old.heap.names nodes) work rest after reduces.added p taken (reduces.items ∙ ap (λ ps. ps ++ reduces.added) is) reduces.lighter
+    pub lighter : weigh (tree_at old.heap.names nodes) after < weigh (tree_at old.heap.names nodes) work
+    lighter = reduced-lighter (tree_at old.heap.names nodes) work rest after reduces.added p taken reduces.items reduces.lighter

@@ -1,4 +1,4 @@
--- The arguments of a head, each beside its value: the last of those that are left is a variable and is unified, or waits on the list.
+-- The arguments of a head, each beside its value: the last of those that are left is unified, or waits on the list.
 use Rattle.std.proofs.Common.{◌≡◌, ℕ, ◌+◌, ◌<◌, List, [], ◌∷◌, ◌++◌, length, take, get_or, refl, sym, ap, ◌∙◌, subst, arith, append-nil, None, false}
 use Rattle.plterm.specs.Tree.{Tree, var}
 use Rattle.plterm.specs.Variables.{AllBelow}
@@ -36,33 +36,15 @@ module _ (old e : Env) (base : ℕ) (nodes : List Node) (laid : IsLaid old.heap.
   pub value-top : IsEquation e base nodes (tree_at e.heap.names nodes) (at + i, v)
   value-top = top old e base nodes laid keeps before (others ++ (at + i, v) ∷ []) others (at + i, v) refl last
 
-  -- a variable
-  module _ (x : ℕ) (is : node_at nodes (at + i) ≡ node.Var x) where
-    names : tree_at e.heap.names nodes (at + i) ≡ var x
-    names = tree-at e.heap.names nodes (sound-now old e nodes laid keeps) (at + i) (node.Var x) value-top.within is
-
-    pub value-slot : base + x < length e.slots
-    value-slot =
-        let below : x < value-top.covers.width = subst (AllBelow value-top.covers.width) names value-top.covers.below in
-        omega (arith, below, value-top.covers.within)
-
-    module _ (new : Env) (slot : ℕ) (of : slot ≡ base + x) where
-      same : variable e slot ≡ left e base (tree_at e.heap.names nodes) (at + i, v)
-      unfolding bind
-      same = ap (variable e) of ∙ sym (ap (bind (over e base)) names)
-
-      pub value-unified : Unifies e new (variable e slot) (value e.heap v) → Onward old new base nodes (tree_at old.heap.names nodes) before others
-      value-unified u =
-          let w = tree_at e.heap.names nodes in
-          let alone : Reduces e new base nodes w (at + i, v) others others = record {
-            added = [];
-            items = sym (append-nil others);
-            equations = tt;
-            progress = unified e new base w (left e base w (at + i, v)) (right e (at + i, v)) (subst (λ (s : Tree). Unifies e new s (value e.heap v)) same u);
-            lighter = weight-some (w (at + i));
-          } in
-          onward old e base nodes laid keeps before (others ++ (at + i, v) ∷ []) others (at + i, v) refl last new others others alone refl
-
-      pub value-never : unify (variable e slot) (value e.heap v) ≡ None → Ends old new base (tree_at old.heap.names nodes) before false
-      value-never u =
-          never old e base nodes laid keeps before (others ++ (at + i, v) ∷ []) others (at + i, v) refl last new (subst (λ (s : Tree). unify s (value e.heap v) ≡ None) same u)
+  -- its sides were unified
+  pub value-unified : (new : Env) → Unifies e new (left e base (tree_at e.heap.names nodes) (at + i, v)) (value e.heap v) → Onward old new base nodes (tree_at old.heap.names nodes) before others
+  value-unified new u =
+      let w = tree_at e.heap.names nodes in
+      let alone : Reduces e new base nodes w (at + i, v) others others = record {
+        added = [];
+        items = sym (append-nil others);
+        equations = tt;
+        progress = unified e new base w (left e base w (at + i, v)) (right e (at + i, v)) u;
+        lighter = weight-some (w (at + i));
+      } in
+      onward old e base nodes laid keeps before (others ++ (at + i, v) ∷ []) others (at + i, v) refl last new others alone

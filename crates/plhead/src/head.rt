@@ -1,5 +1,5 @@
 //! Heads against values.
-ghost use Rattle.std.specs.Prelude.{◌≡◌, ◌↔◌, IsTrue, ℕ, ◌+◌, ◌++◌, ◌^◌, ◌<◌, ◌≤◌, map, length, true, false, None, IfOk};
+ghost use Rattle.std.specs.Prelude.{◌≡◌, ◌↔◌, IsTrue, ℕ, ◌+◌, ◌++◌, ◌^◌, ◌<◌, ◌≤◌, map, length, true, false, None, IfOk, OnOk};
 ghost use Rattle.plterm.specs.Tree.{var, Tree};
 ghost use Rattle.plsubst.specs.Subst.{bind};
 ghost use Rattle.plsubst.specs.Unify.{unify};
@@ -39,6 +39,22 @@ fn is_younger(heap: &Heap, v: &Cell, number: u64) -> bool
     }
 }
 
+/// Gives the free slot of a variable a value that is no younger variable.
+#[inline(always)]
+fn take(env: &mut Environment, slot: u32, number: u64, v: Cell) -> Result<(), AllocError>
+    requires within { slot < length env.old.slots }
+    requires free { slot_at env.old.slots slot ≡ FreeSlot number }
+    requires fresh { IsSlot env.old (FreeSlot number) }
+    requires heap { IsHeap env.old.heap }
+    requires value { IsValue env.old.heap v }
+    requires older { (n : ℕ) → value env.old.heap v ≡ var n → number < n → ⊥ }
+    ensures ok { OnOk result (Unifies env.old env.new (var number) (value env.old.heap v)) }
+    ensures keeps { Keeps env.old env.new }
+{
+    env.set(slot, v)?;
+    Ok(())
+}
+
 /// Unifies the variable of a free slot with a value: the slot takes it. A value that is a younger variable stands for the slot's.
 #[inline(always)]
 fn meet_free(env: &mut Environment, slot: u32, number: u64, v: Cell) -> Result<bool, AllocError>
@@ -55,7 +71,7 @@ fn meet_free(env: &mut Environment, slot: u32, number: u64, v: Cell) -> Result<b
         let own = env.put_variable(slot)?;
         env.unify_in_choice(own, v)
     } else {
-        env.set(slot, v)?;
+        take(env, slot, number, v)?;
         Ok(true)
     }
 }
@@ -206,37 +222,61 @@ pub struct Head {
     pub base: u32,
 }
 
-/// Unifies the arguments of a head that are variables with their values, and puts the equations of the others on the list, the first on top:
-/// whether all may have a unifier.
+/// Gives the variable that a node is at its first occurrence a value: whether it is one, and the value is no younger variable. Where it is
+/// not so, all is as it was.
+#[inline(always)]
+fn takes(
+    env: &mut Environment,
+    nodes: &[Node],
+    base: u32,
+    at: u32,
+    v: Cell,
+) -> Result<bool, AllocError>
+    requires sound { IsSound env.old.heap.names nodes.now }
+    requires is { IsEquation env.old base nodes.now (tree_at env.old.heap.names nodes.now) (at, v) }
+    ensures yes { IfOk result (λ took. took ≡ true → Unifies env.old env.new (left env.old base (tree_at env.old.heap.names nodes.now) (at, v)) (value env.old.heap v)) }
+    ensures no { IfOk result (λ took. took ≡ false → env.new ≡ env.old) }
+    ensures keeps { Keeps env.old env.new }
+{
+    let Node::Var(x) = nodes[at as usize] else {
+        return Ok(false);
+    };
+    let slot = env.slot_of(base, x);
+    let Slot::Free(number) = env.slot(slot) else {
+        return Ok(false);
+    };
+    if is_younger(env.heap(), &v, number) {
+        return Ok(false);
+    }
+    take(env, slot, number, v)?;
+    Ok(true)
+}
+
+/// Gives the variables at their first occurrence among the arguments of a head their values, and puts the equations of the other arguments on
+/// the list, the first on top.
 fn meet_values(
     env: &mut Environment,
     nodes: &[Node],
     head: Head,
     values: &[Cell],
     work: &mut Vec<(u32, Cell)>,
-) -> Result<bool, AllocError>
+) -> Result<(), AllocError>
     requires laid { IsLaid env.old.heap.names nodes.now }
     requires few { length nodes.now < 2 ^ 32 }
     requires row { head.row.at + length values.now ≤ length nodes.now }
     requires equations { AreEquations env.old head.base nodes.now (tree_at env.old.heap.names nodes.now) (work.old.items ++ pairs head.row.at values.now) }
-    ensures yes { IfOk result (λ may. may ≡ true → Onward env.old env.new head.base nodes.now (tree_at env.old.heap.names nodes.now) (work.old.items ++ pairs head.row.at values.now) work.new.items) }
-    ensures no { IfOk result (λ may. may ≡ false → Ends env.old env.new head.base (tree_at env.old.heap.names nodes.now) (work.old.items ++ pairs head.row.at values.now) false) }
+    ensures ok { OnOk result (Onward env.old env.new head.base nodes.now (tree_at env.old.heap.names nodes.now) (work.old.items ++ pairs head.row.at values.now) work.new.items) }
     ensures keeps { Keeps env.old env.new }
 {
     let mut i = values.len();
     while i > 0 {
         i -= 1;
         let at = head.row.at + i as u32;
-        if let Node::Var(x) = nodes[at as usize] {
-            let slot = env.slot_of(head.base, x);
-            if !meet_slot(env, slot, values[i])? {
-                return Ok(false);
-            }
-        } else {
+        if !takes(env, nodes, head.base, at, values[i])? {
             work.push((at, values[i]))?;
         }
     }
-    Ok(true)
+    Ok(())
 }
 
 /// What is known of every environment.
@@ -283,9 +323,7 @@ impl Matcher {
         ensures keeps { Keeps env.old env.new }
     {
         self.work.clear();
-        if !meet_values(env, nodes, head, values, &mut self.work)? {
-            return Ok(false);
-        }
+        meet_values(env, nodes, head, values, &mut self.work)?;
         known(env);
         solve(env, nodes, head.base, &mut self.work)
     }

@@ -7,7 +7,7 @@ ghost use Rattle.plstack.specs.State.{goals_of, kinds_in, IsList};
 
 use crate::back::truth;
 use crate::first::{pass, pick, unify_first};
-use crate::state::number;
+use crate::state::{number, text_of};
 use planswers::answer::Answer;
 use planswers::equation::list_equation;
 use plcells::cell::Cell;
@@ -30,6 +30,11 @@ use std::test::Fail;
 pub enum Going {
     /// The list behind it is visited.
     Pass,
+    /// The list in which the two goals of a conjunction stand in its place is visited, and the first of them is told.
+    Both,
+    /// The list behind a goal of the clause's body is visited: whether it goes on there, and whether it does so in the goal's place, up to
+    /// another slot, and with another number of open cases.
+    GoesOn,
     /// The two arguments of a goal are unified.
     Unify,
     /// The first argument of a goal is unified with the list of two more.
@@ -169,6 +174,32 @@ fn pairs(stack: &mut Stack, alloc: Global) -> Result<bool, Fail> {
     Ok(stack.call_answers(alloc, &values, turn, picked.rest)?)
 }
 
+/// Visits the list in which the two goals of a conjunction, the first of the visited list, stand in its place: the first of them.
+fn both(stack: &mut Stack, alloc: Global) -> Result<String, Fail> {
+    let First::Both(next, step) = stack.first() else {
+        return Err("no conjunction".into());
+    };
+    stack.visit(next);
+    let first = stack.first_of_step(step);
+    text_of(stack, alloc, first)
+}
+
+/// Visits the list behind the first of the visited list, a goal of a clause's body: whether a search goes on there, and whether it does so in
+/// the list that was visited before, up to another slot, and with another number of open cases.
+fn goes_on(stack: &mut Stack, alloc: Global) -> Result<String, Fail> {
+    let First::Step(run, _, rest) = stack.first() else {
+        return Err("no goal of a clause".into());
+    };
+    let before = stack.visited();
+    let depth = stack.depth();
+    stack.visit(rest);
+    let on = truth(stack.goes_on(&rest, run.end, depth));
+    let back = truth(stack.goes_on(&before, run.end, depth));
+    let wider = truth(stack.goes_on(&rest, run.end.wrapping_add(1), depth));
+    let deeper = truth(stack.goes_on(&rest, run.end, Level::BOTTOM));
+    Ok(format!(in alloc; "{on} {back} {wider} {deeper}")?)
+}
+
 /// Gives back what nothing holds: how many slots there are before and behind that.
 pub fn give_back(stack: &mut Stack, alloc: Global) -> Result<String, Fail>
     ensures basis { OnOk result (stack.new.basis ≡ stack.old.basis) }
@@ -205,6 +236,8 @@ pub fn go_on(stack: &mut Stack, alloc: Global, by: Going) -> Result<String, Fail
             pass(stack)?;
             "passed"
         }
+        Going::Both => return both(stack, alloc),
+        Going::GoesOn => return goes_on(stack, alloc),
         Going::Unify => truth(unify_first(stack, &mut Vec::new(alloc))?),
         Going::Solve => truth(solve(stack, alloc)?),
         Going::Cut => {

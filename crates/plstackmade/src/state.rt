@@ -3,7 +3,7 @@ ghost use Rattle.std.specs.Prelude.{◌≡◌, List, OnOk, IfOk};
 ghost use Rattle.plcells.specs.Store.{IsValue};
 ghost use Rattle.pllinks.specs.Lists.{IsMarker};
 ghost use Rattle.plsearch.specs.Types.{Element};
-ghost use Rattle.plstack.specs.First.{AtStep};
+ghost use Rattle.plstack.specs.First.{AtStep, IsFirst};
 
 use plcells::cell::Cell;
 use plcells::heap::Heap;
@@ -84,17 +84,26 @@ fn marker_text(alloc: Global, heap: &Heap, kind: MarkerKind, level: Level) -> Re
     Ok(format!(in alloc; "{level}: {word}")?)
 }
 
-/// The text of the first of the visited list; `-`, where there are no goals.
-pub fn first_text(stack: &mut Stack, alloc: Global) -> Result<String, Fail>
+/// The text of what stands first in the visited list; `-`, where there are no goals.
+pub fn text_of(stack: &mut Stack, alloc: Global, first: First) -> Result<String, Fail>
+    requires { IsFirst stack.old first }
     ensures basis { OnOk result (stack.new.basis ≡ stack.old.basis) }
 {
-    match stack.first() {
+    match first {
         First::Nothing => Ok("-".to_string(alloc)?),
         First::Both(_, _) => Ok("both".to_string(alloc)?),
         First::Step(run, step, rest) => step_text(stack, alloc, run, step, &rest),
         First::Goal(level, v, _) => goal_text(alloc, stack.env().heap(), level, v),
         First::Marker(kind, level, _) => marker_text(alloc, stack.env().heap(), kind, level),
     }
+}
+
+/// The text of the first of the visited list.
+pub fn first_text(stack: &mut Stack, alloc: Global) -> Result<String, Fail>
+    ensures basis { OnOk result (stack.new.basis ≡ stack.old.basis) }
+{
+    let first = stack.first();
+    text_of(stack, alloc, first)
 }
 
 /// What the innermost case is, by each word that is true of it.

@@ -88,6 +88,10 @@ fn compared(alloc: Global, moves: &'static [Told]) -> Result<String, Fail> {
 
 const PASS: Move = Move::Go(Going::Pass);
 
+const BOTH: Move = Move::Go(Going::Both);
+
+const GOES_ON: Move = Move::Go(Going::GoesOn);
+
 const UNIFY: Move = Move::Go(Going::Unify);
 
 const SOLVE: Move = Move::Go(Going::Solve);
@@ -376,6 +380,55 @@ const ANSWERS: [(&str, &[Told]); 5] = [
         ],
     ),
 ];
+
+/// Bodies, and how a search goes on in them: what the first goal of a conjunction is, and whether the clause goes on behind a goal.
+const STEPS: [(&str, &[Told]); 4] = [
+    (
+        "p(X) :- q(X, Y), r(Y), s.",
+        &[
+            (BOTH, "1: q(_1,_2); 2 plain 1: q(_1,_2)"),
+            (GOES_ON, "yes no no no; 2 plain both"),
+            (BOTH, "1: r(_1); 2 plain 1: r(_1)"),
+            (GOES_ON, "yes no no no; 2 plain 1: s"),
+        ],
+    ),
+    (
+        "p(X) :- (q(X) ; r), s.",
+        &[
+            (BOTH, "or; 2 plain or"),
+            (GOES_ON, "yes no no no; 2 plain 1: s"),
+        ],
+    ),
+    // The goals of the first one of two conjunctions stand before the second one's.
+    (
+        "p(X) :- (q, r(X)), s.",
+        &[
+            (BOTH, "both; 2 plain both"),
+            (BOTH, "1: q; 2 plain 1: q"),
+            (GOES_ON, "yes no no no; 2 plain 1: r(_1)"),
+        ],
+    ),
+    // In a choice of the list.
+    (
+        "p(X) :- q(X), s.",
+        &[
+            (BRANCH, "opened; 3 branch both"),
+            (BOTH, "1: q(_1); 3 branch 1: q(_1)"),
+            (GOES_ON, "yes no no no; 3 branch 1: s"),
+            (TAKE, "taken; 3 plain both"),
+        ],
+    ),
+];
+
+#[test]
+fn rows_of_steps(rt: HostRuntime) -> Result<(), Fail> {
+    let alloc = rt.alloc();
+    for (text, moves) in STEPS {
+        let others = others_of(alloc, text, moves)?;
+        assert_eq!(rt; others.as_str(), "");
+    }
+    Ok(())
+}
 
 #[test]
 fn rows_of_unified_terms(rt: HostRuntime) -> Result<(), Fail> {

@@ -2,6 +2,7 @@
 ghost use Rattle.std.specs.Prelude.{IfOk};
 ghost use Rattle.platoms.specs.Names.{HasAtom};
 
+use platoms::evaluable::Operation;
 use platoms::names::{Functor, Names};
 use plterm::name::Name;
 use std::alloc::{AllocError, Global};
@@ -92,6 +93,57 @@ fn first_wrong_of_new(alloc: Global, rows: &[Row]) -> Result<Option<usize>, Allo
 fn numbers_of_names(rt: HostRuntime) -> Result<(), Fail> {
     for rows in ASKED {
         assert_eq!(rt; first_wrong_of_new(rt.alloc(), rows)?, None);
+    }
+    Ok(())
+}
+
+/// A name, how many arguments a compound of it has, and how many values its operation takes; 0, where it is not evaluable (ISO/IEC 13211-1
+/// 9.1, 9.3, 9.4).
+const OPERATIONS: [(&str, u16, usize); 12] = [
+    ("-", 1, 1),
+    ("-", 2, 2),
+    ("-", 3, 0),
+    ("foo", 2, 0),
+    ("abs", 1, 1),
+    ("abs", 2, 0),
+    ("mod", 2, 2),
+    ("mod", 1, 0),
+    ("^", 2, 2),
+    ("foo", 1, 0),
+    ("\\", 1, 1),
+    ("-", 2, 2),
+];
+
+/// How many values the operation of a functor takes, as its number tells.
+fn values_of(
+    alloc: Global,
+    names: &mut Names,
+    text: &str,
+    arity: u16,
+) -> Result<usize, AllocError> {
+    let name = number_of(alloc, names, text)?;
+    if arity == 0 || arity > 1024 {
+        return Err(AllocError);
+    }
+    let f = names.functor(Functor { name, arity })?;
+    match names.operation(f) {
+        None => Ok(0),
+        Some(Operation::One(_)) => Ok(1),
+        Some(Operation::Two(_)) => Ok(2),
+    }
+}
+
+// A functor's number tells what it evaluates to, whatever was asked for before.
+#[test]
+fn operations_by_number(rt: HostRuntime) -> Result<(), Fail> {
+    let alloc = rt.alloc();
+    let mut names = Names::new(alloc);
+    for (text, arity, values) in OPERATIONS {
+        assert_eq!(rt;
+            values_of(alloc, &mut names, text, arity)?,
+            values,
+            "{text}"
+        );
     }
     Ok(())
 }

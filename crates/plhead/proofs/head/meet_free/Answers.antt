@@ -6,8 +6,8 @@ use Rattle.plhead.proofs.Verdicts.{no}
 use Rattle.plhead.proofs.Slots.{fresh-absent, keeps-same, keeps-trans, put-is, put-yes}
 use Rattle.plhead.proofs.head.meet_free.Goals as goal
 
-pub returns-in_err-set-clause-keeps : goal.returns-in_err-set-clause-keeps
-returns-in_err-set-clause-keeps c = keeps-same c.args.env.now c.set.new.self c.in_err-set.ensures.err
+pub take-requires-clause-older : goal.take-requires-clause-older
+take-requires-clause-older c = λ u q lt. no ((c.if-is_younger.ensures.variable u (ap (λ x. value x c.args.v) c.heap.ensures.is ∙ q)).1 lt)
 
 pub returns-in_ok-own-clause-yes : goal.returns-in_ok-own-clause-yes
 returns-in_ok-own-clause-yes c =
@@ -17,15 +17,3 @@ pub returns-in_ok-own-clause-keeps : goal.returns-in_ok-own-clause-keeps
 returns-in_ok-own-clause-keeps c =
     let puts = c.in_ok-own.ensures.ok c.args.number c.requires.free in
     keeps-trans c.args.env.now c.put_variable.new.self c.unify_in_choice.new.self puts.extends.keeps c.unify_in_choice.ensures.keeps
-
-pub returns-in_ok-set-clause-yes : goal.returns-in_ok-set-clause-yes
-returns-in_ok-set-clause-yes c = λ e.
-    let h = c.args.env.now.heap in
-    let n = c.args.number in
-    record {
-      unifier = put n (value h c.args.v);
-      is = put-is n (value h c.args.v) (fresh-absent h c.requires.heap n c.requires.fresh.0 c.args.v c.requires.value) (λ u q.
-          let above : n < u → ⊥ = λ lt. no ((c.if-is_younger.ensures.variable u (ap (λ x. value x c.args.v) c.heap.ensures.is ∙ q)).1 lt) in
-          omega (arith, above));
-      made = c.in_ok-set.ensures.ok n c.requires.free;
-    }

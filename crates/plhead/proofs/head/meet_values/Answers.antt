@@ -5,7 +5,8 @@ use Rattle.plenv.specs.Rows.{tree_at}
 use Rattle.plhead.specs.Equations.{pairs}
 use Rattle.plhead.specs.Progress.{Onward}
 use Rattle.plhead.proofs.Slots.{keeps-refl, keeps-trans}
-use Rattle.plhead.proofs.Values.{value-never, value-slot, value-top, value-unified, value-waits}
+use Rattle.plhead.proofs.Steps.{sound-now}
+use Rattle.plhead.proofs.Values.{value-top, value-unified, value-waits}
 use Rattle.plhead.proofs.head.meet_values.Goals as goal
 
 pub loop-i-init : goal.loop-i-init
@@ -20,44 +21,19 @@ loop-i-init c =
       keeps = keeps-refl e;
     }
 
-pub slot_of-slot-requires : goal.slot_of-slot-requires
-slot_of-slot-requires c =
+pub takes-requires-clause-sound : goal.takes-requires-clause-sound
+takes-requires-clause-sound c = sound-now c.args.env.now c.loop-i.env c.args.nodes.now c.requires.laid c.loop-i.invariant.keeps
+
+pub takes-requires-clause-is : goal.takes-requires-clause-is
+takes-requires-clause-is c =
     let l = c.loop-i in
     let up : l.i ≡ l.i - 1 + 1 = omega (arith, c.loop-i-test.true) in
     let lt : l.i - 1 < length c.args.values.now = omega (arith, l.invariant.most, up) in
-    value-slot c.args.env.now l.env c.args.head.base c.args.nodes.now c.requires.laid l.invariant.keeps (c.args.work.now.items ++ pairs c.args.head.row.at c.args.values.now) l.work.items c.args.head.row.at c.args.values.now
-    l.i (l.i - 1) (get_or c.args.values.now (l.i - 1) (Free 0)) (Free 0) up lt refl l.invariant.on c.in-Var.x c.in-Var.is
+    value-top c.args.env.now l.env c.args.head.base c.args.nodes.now c.requires.laid l.invariant.keeps (c.args.work.now.items ++ pairs c.args.head.row.at c.args.values.now) l.work.items c.args.head.row.at c.args.values.now
+    l.i (l.i - 1) c.index-values-i.result _ up lt c.index-values-i.is l.invariant.on
 
-pub meet_slot-requires-clause-within : goal.meet_slot-requires-clause-within
-meet_slot-requires-clause-within c =
-    let l = c.loop-i in
-    let up : l.i ≡ l.i - 1 + 1 = omega (arith, c.loop-i-test.true) in
-    let lt : l.i - 1 < length c.args.values.now = omega (arith, l.invariant.most, up) in
-    let within = value-slot c.args.env.now l.env c.args.head.base c.args.nodes.now c.requires.laid l.invariant.keeps (c.args.work.now.items ++ pairs c.args.head.row.at c.args.values.now) l.work.items c.args.head.row.at c.args.values.now
-    l.i (l.i - 1) c.index-values-i.result _ up lt c.index-values-i.is l.invariant.on c.in-Var.x c.in-Var.is in
-    omega (arith, within, c.slot_of-slot.ensures)
-
-pub meet_slot-requires-clause-value : goal.meet_slot-requires-clause-value
-meet_slot-requires-clause-value c =
-    let l = c.loop-i in
-    let up : l.i ≡ l.i - 1 + 1 = omega (arith, c.loop-i-test.true) in
-    let lt : l.i - 1 < length c.args.values.now = omega (arith, l.invariant.most, up) in
-    (value-top c.args.env.now l.env c.args.head.base c.args.nodes.now c.requires.laid l.invariant.keeps (c.args.work.now.items ++ pairs c.args.head.row.at c.args.values.now) l.work.items c.args.head.row.at c.args.values.now
-    l.i (l.i - 1) c.index-values-i.result _ up lt c.index-values-i.is l.invariant.on).fits
-
-pub returns-in_err-meet_slot-clause-keeps : goal.returns-in_err-meet_slot-clause-keeps
-returns-in_err-meet_slot-clause-keeps c = keeps-trans c.args.env.now c.loop-i.env c.meet_slot.new.env c.loop-i.invariant.keeps c.meet_slot.ensures.keeps
-
-pub returns-then-not-branch-clause-keeps : goal.returns-then-not-branch-clause-keeps
-returns-then-not-branch-clause-keeps c = keeps-trans c.args.env.now c.loop-i.env c.meet_slot.new.env c.loop-i.invariant.keeps c.meet_slot.ensures.keeps
-
-pub returns-then-not-branch-clause-no : goal.returns-then-not-branch-clause-no
-returns-then-not-branch-clause-no c = λ q.
-    let l = c.loop-i in
-    let up : l.i ≡ l.i - 1 + 1 = omega (arith, c.loop-i-test.true) in
-    let lt : l.i - 1 < length c.args.values.now = omega (arith, l.invariant.most, up) in
-    value-never c.args.env.now l.env c.args.head.base c.args.nodes.now c.requires.laid l.invariant.keeps (c.args.work.now.items ++ pairs c.args.head.row.at c.args.values.now) l.work.items c.args.head.row.at c.args.values.now
-    l.i (l.i - 1) c.index-values-i.result _ up lt c.index-values-i.is l.invariant.on c.in-Var.x c.in-Var.is c.meet_slot.new.env c.slot_of-slot.result c.slot_of-slot.ensures (c.in_ok-meet_slot.ensures.no c.if-not-branch.true)
+pub returns-in_err-takes-clause-keeps : goal.returns-in_err-takes-clause-keeps
+returns-in_err-takes-clause-keeps c = keeps-trans c.args.env.now c.loop-i.env c.takes.new.env c.loop-i.invariant.keeps c.takes.ensures.keeps
 
 pub loop-i-preserved-else-not-branch : goal.loop-i-preserved-else-not-branch
 loop-i-preserved-else-not-branch c =
@@ -67,8 +43,8 @@ loop-i-preserved-else-not-branch c =
     record {
       most = omega (arith, l.invariant.most);
       on = value-unified c.args.env.now l.env c.args.head.base c.args.nodes.now c.requires.laid l.invariant.keeps (c.args.work.now.items ++ pairs c.args.head.row.at c.args.values.now) l.work.items c.args.head.row.at c.args.values.now
-          l.i (l.i - 1) c.index-values-i.result _ up lt c.index-values-i.is l.invariant.on c.in-Var.x c.in-Var.is c.meet_slot.new.env c.slot_of-slot.result c.slot_of-slot.ensures (c.in_ok-meet_slot.ensures.yes c.if-not-branch.false);
-      keeps = keeps-trans c.args.env.now l.env c.meet_slot.new.env l.invariant.keeps c.meet_slot.ensures.keeps;
+          l.i (l.i - 1) c.index-values-i.result _ up lt c.index-values-i.is l.invariant.on c.takes.new.env (c.in_ok-takes.ensures.yes c.if-not-branch.false);
+      keeps = keeps-trans c.args.env.now l.env c.takes.new.env l.invariant.keeps c.takes.ensures.keeps;
     }
 
 pub loop-i-preserved : goal.loop-i-preserved
@@ -77,16 +53,11 @@ loop-i-preserved c =
     let up : l.i ≡ l.i - 1 + 1 = omega (arith, c.loop-i-test.true) in
     let lt : l.i - 1 < length c.args.values.now = omega (arith, l.invariant.most, up) in
     let before = c.args.work.now.items ++ pairs c.args.head.row.at c.args.values.now in
-    record {
-      most = omega (arith, l.invariant.most);
-      on = subst (λ ws. Onward c.args.env.now l.env c.args.head.base c.args.nodes.now (tree_at c.args.env.now.heap.names c.args.nodes.now) before (ws ++ pairs c.args.head.row.at (take (l.i - 1) c.args.values.now))) (sym c.in_ok-push.ensures.items)
-          (value-waits c.args.env.now l.env c.args.head.base c.args.nodes.now c.requires.laid l.invariant.keeps before l.work.items c.args.head.row.at c.args.values.now
-          l.i (l.i - 1) c.index-values-i-in_default.result _ up lt c.index-values-i-in_default.is l.invariant.on);
-      keeps = l.invariant.keeps;
-    }
+    let same = c.in_ok-takes.ensures.no c.if-not-branch.true in
+    ?
 
-pub returns-clause-yes : goal.returns-clause-yes
-returns-clause-yes c = λ q.
+pub returns-clause-ok : goal.returns-clause-ok
+returns-clause-ok c =
     let l = c.loop-i in
     let none : l.i ≡ 0 = omega (arith, c.loop-i-test.false) in
     subst (λ ws. Onward c.args.env.now l.env c.args.head.base c.args.nodes.now (tree_at c.args.env.now.heap.names c.args.nodes.now) (c.args.work.now.items ++ pairs c.args.head.row.at c.args.values.now) ws) (append-nil l.work.items)

@@ -1,4 +1,4 @@
-use Rattle.std.proofs.Common.{arith, refl}
+use Rattle.std.proofs.Common.{arith}
 use Rattle.std.proofs.lemmas.List.{nil_from_length}
 use Rattle.plenv.specs.Rows.{tree_at}
 use Rattle.plhead.specs.Fitting.{Answers}
@@ -34,12 +34,12 @@ returns-then-not-branch-clause-keeps c = keeps-trans c.args.env.now c.loop-equat
 pub loop-equation-smaller : goal.loop-equation-smaller
 loop-equation-smaller c =
     lighter c.args.env.now c.loop-equation.env c.args.base c.args.nodes.now c.requires.laid c.loop-equation.invariant.keeps c.args.work.now.items c.loop-equation.work.items c.pop.new.self.items c.in-Some.equation c.in-Some.ensures.items c.loop-equation.invariant.on
-    c.reduce.new.env c.pop.new.self.items c.reduce.new.work.items (c.in_ok-reduce.ensures.yes c.if-not-branch.false) refl
+    c.reduce.new.env c.reduce.new.work.items (c.in_ok-reduce.ensures.yes c.if-not-branch.false)
 
 pub loop-equation-preserved : goal.loop-equation-preserved
 loop-equation-preserved c = record {
   on = onward c.args.env.now c.loop-equation.env c.args.base c.args.nodes.now c.requires.laid c.loop-equation.invariant.keeps c.args.work.now.items c.loop-equation.work.items c.pop.new.self.items c.in-Some.equation c.in-Some.ensures.items c.loop-equation.invariant.on
-      c.reduce.new.env c.pop.new.self.items c.reduce.new.work.items (c.in_ok-reduce.ensures.yes c.if-not-branch.false) refl;
+      c.reduce.new.env c.reduce.new.work.items (c.in_ok-reduce.ensures.yes c.if-not-branch.false);
   keeps = keeps-trans c.args.env.now c.loop-equation.env c.reduce.new.env c.loop-equation.invariant.keeps c.reduce.ensures.keeps;
 }
 

@@ -1,20 +1,15 @@
-use Rattle.std.proofs.Common.{◌∙◌, [], bytes_eq, sym, arith}
+use Rattle.std.proofs.Common.{◌∙◌, [], sym}
 use Rattle.std.proofs.lemmas.Slice.Eq.{bytes_eq-Decides}
-use Rattle.plterm.specs.Reading.{IsName}
-use Rattle.platoms.proofs.Tables.{get-is, insert_once, insert_all_fit, insert_longer}
+use Rattle.platoms.specs.Names.{Table}
+use Rattle.platoms.proofs.Growing.{table-with_atom, evaluates-with_atom}
+use Rattle.platoms.proofs.Tables.{get-is}
 use Rattle.platoms.proofs.names.Names.atom_in.Goals as goal
 
 pub invariant_of-self-2 : goal.invariant_of-self-2
 invariant_of-self-2 c =
-    let old = c.self.invariant in
-    let xs = c.self.inside.atoms.keys in
-    let x = c.args.name in
-    rw c.in_ok-place.ensures.keys (record {
-      atoms = insert_all_fit bytes_eq bytes_eq-Decides [] IsName xs x old.atoms c.requires.name;
-      functors = λ f lt. let k = old.functors f lt in record { name = omega (arith, k.name, insert_longer bytes_eq bytes_eq-Decides [] xs x); some = k.some; most = k.most };
-      atom_once = insert_once bytes_eq bytes_eq-Decides [] xs x old.atom_once;
-      functor_once = old.functor_once;
-    })
+    let t : Table = record { atoms = c.self.inside.atoms.keys; functors = c.self.inside.functors.keys } in
+    let is = c.self.invariant in
+    rw c.in_ok-place.ensures.keys (table-with_atom t c.args.name is.0 c.requires.name, evaluates-with_atom t c.self.inside.operations.items is.1 c.args.name is.0)
 
 pub returns-clause-is : goal.returns-clause-is
 returns-clause-is c =
@@ -23,4 +18,4 @@ returns-clause-is c =
     record { within = r.0; is = r.1 ∙ sym ((bytes_eq-Decides c.args.name s.0).0 s.2) }
 
 pub returns-clause-table : goal.returns-clause-table
-returns-clause-table c = invariant_of-self-2 c
+returns-clause-table c = (invariant_of-self-2 c).0

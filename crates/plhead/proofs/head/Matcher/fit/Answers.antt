@@ -21,26 +21,13 @@ meet_values-requires-clause-equations c =
     subst (λ ws. AreEquations e c.args.head.base ns (tree_at t ns) (ws ++ pairs r.at c.args.values.now)) (sym c.clear.ensures.items)
     (row-equations e c.args.head.base (tree_at t ns) ns r.at r.count c.args.values.now (row_at t ns r) (row-spread t ns r.at r.count c.requires.row) c.requires.count c.requires.values c.requires.row c.requires.whole c.requires.covers)
 
-pub returns-then-not-branch-clause-no : goal.returns-then-not-branch-clause-no
-returns-then-not-branch-clause-no c =
-    let e = c.args.env.now in
-    let r = c.args.head.row in
-    let t = e.heap.names in
-    let ns = c.args.nodes.now in
-    let w = tree_at t ns in
-    let answer : Result Bool (Unit {0}) = Ok false in
-    let alone = ap (λ ws. ws ++ pairs r.at c.args.values.now) c.clear.ensures.items in
-    let ends = subst (λ ws. Ends e c.meet_values.new.env c.args.head.base w ws false) alone (c.in_ok-meet_values.ensures.no c.if-not-branch.true) in
-    row-no e c.args.head.base w ns r.at r.count c.args.values.now (row_at t ns r) (row-spread t ns r.at r.count c.requires.row) c.requires.count c.meet_values.new.env answer
-    (ended e c.meet_values.new.env c.args.head.base w (pairs r.at c.args.values.now) false ends)
-
 pub solve-requires-clause-laid : goal.solve-requires-clause-laid
 solve-requires-clause-laid c =
     IsLaid-names c.args.env.now.heap.names c.meet_values.new.env.heap.names c.args.nodes.now c.meet_values.ensures.keeps.names c.known.ensures.heap.names c.requires.laid
 
 pub solve-requires-clause-equations : goal.solve-requires-clause-equations
 solve-requires-clause-equations c =
-    equations-now c.args.env.now c.meet_values.new.env c.args.nodes.now c.requires.laid c.meet_values.ensures.keeps c.args.head.base c.meet_values.new.work.items (c.in_ok-meet_values.ensures.yes c.if-not-branch.false).equations
+    equations-now c.args.env.now c.meet_values.new.env c.args.nodes.now c.requires.laid c.meet_values.ensures.keeps c.args.head.base c.meet_values.new.work.items c.in_ok-meet_values.ensures.ok.equations
 
 -- what the head's arguments and their values come to
 answered : (c : goal.After-solve) → let e = c.args.env.now in let w = tree_at e.heap.names c.args.nodes.now in
@@ -50,7 +37,7 @@ answered c =
     let w = tree_at e.heap.names c.args.nodes.now in
     let alone = ap (λ ws. ws ++ pairs c.args.head.row.at c.args.values.now) c.clear.ensures.items in
     subst (λ ws. IfOk c.solve.result (λ b. (s u : Tree) → Stands e c.args.head.base w ws s u → Answers e c.solve.new.env s u b)) alone
-    (stood-onward e c.meet_values.new.env c.args.nodes.now c.requires.laid c.meet_values.ensures.keeps c.solve.new.env c.args.head.base (c.clear.new.self.items ++ pairs c.args.head.row.at c.args.values.now) c.meet_values.new.work.items (c.in_ok-meet_values.ensures.yes c.if-not-branch.false) c.solve.result c.solve.ensures.answers)
+    (stood-onward e c.meet_values.new.env c.args.nodes.now c.requires.laid c.meet_values.ensures.keeps c.solve.new.env c.args.head.base (c.clear.new.self.items ++ pairs c.args.head.row.at c.args.values.now) c.meet_values.new.work.items c.in_ok-meet_values.ensures.ok c.solve.result c.solve.ensures.answers)
 
 pub returns-clause-yes : goal.returns-clause-yes
 returns-clause-yes c =
