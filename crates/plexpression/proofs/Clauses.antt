@@ -137,7 +137,7 @@ module _ (e : Env) (nodes : List Node) (base : ℕ) where
 
   pub opens_compound : (at root : ℕ) → IsNode e nodes base at → (c : IsCompoundAt e.heap.names nodes root (tree_at e.heap.names nodes at)) →
       Opens (tree e nodes base) (IsOperand e nodes base) (tree e nodes base (operands.Node at)) (seen_block (functor_name e.heap.names c.functor) c.arity root)
-  opens_compound at root is c = 
+  opens_compound at root is c =
       let name = functor_name e.heap.names c.functor in
       by_operation root c.arity name (tree e nodes base (operands.Node at)) (ap (bind (over e base)) c.is) (argument_there at root is c) (operation_of name c.arity) refl
 

@@ -1,5 +1,5 @@
 -- Steps of the solution of equations.
-use Rattle.std.proofs.Common.{◌≡◌, ℕ, ◌<◌, Bool, false, List, [], ◌∷◌, ◌++◌, sym, ap, ◌∙◌, subst, append-nil, None, Result, Ok, Err, IfOk}
+use Rattle.std.proofs.Common.{◌≡◌, ℕ, ◌<◌, Bool, false, List, [], ◌∷◌, ◌++◌, sym, subst, append-nil, None, Result, Ok, Err, IfOk}
 use Rattle.plterm.specs.Tree.{Tree}
 use Rattle.plsubst.specs.Subst.{bind}
 use Rattle.plsubst.specs.Unify.{unify}

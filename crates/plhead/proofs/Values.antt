@@ -1,25 +1,18 @@
 -- The arguments of a head, each beside its value: the last of those that are left is unified, or waits on the list.
-use Rattle.std.proofs.Common.{◌≡◌, ℕ, ◌+◌, ◌<◌, List, [], ◌∷◌, ◌++◌, length, take, get_or, refl, sym, ap, ◌∙◌, subst, arith, append-nil, None, false}
-use Rattle.plterm.specs.Tree.{Tree, var}
-use Rattle.plterm.specs.Variables.{AllBelow}
-use Rattle.plsubst.specs.Subst.{bind}
-use Rattle.plsubst.specs.Unify.{unify}
+use Rattle.std.proofs.Common.{◌≡◌, ℕ, ◌+◌, ◌<◌, List, [], ◌∷◌, ◌++◌, length, take, get_or, refl, sym, subst, append-nil}
 use Rattle.plcells.specs.declared.cell.Cell.{Cell}
 use Rattle.plcells.specs.Store.{value}
 use Rattle.plcells.proofs.Searching.{weight-some}
 use Rattle.plcode.specs.declared.node.Node.{Node}
-use Rattle.plcode.specs.declared.node.Node.TheVariants as node
 use Rattle.plcode.specs.Laying.{IsLaid}
-use Rattle.plcode.specs.Packed.{node_at}
-use Rattle.plenv.specs.Env.{Env, over, variable}
+use Rattle.plenv.specs.Env.{Env}
 use Rattle.plenv.specs.Changes.{Keeps, Unifies}
 use Rattle.plenv.specs.Rows.{tree_at}
 use Rattle.plhead.specs.Equations.{left, pairs, right, IsEquation}
-use Rattle.plhead.specs.Progress.{Ends, Onward, Reduces}
+use Rattle.plhead.specs.Progress.{Onward, Reduces}
 use Rattle.plhead.proofs.Heads.{one-taken}
 use Rattle.plhead.proofs.Solving.{unified}
-use Rattle.plhead.proofs.Steps.{never, onward, onward-swap, sound-now, top}
-use Rattle.plhead.proofs.Trees.{tree-at}
+use Rattle.plhead.proofs.Steps.{onward, onward-swap, top}
 
 module _ (old e : Env) (base : ℕ) (nodes : List Node) (laid : IsLaid old.heap.names nodes) (keeps : Keeps old e) (before work : List (ℕ × Cell)) (at : ℕ) (values : List Cell) (k i : ℕ) (v d : Cell)
     (up : k ≡ i + 1) (lt : i < length values) (read : v ≡ get_or values i d) (on : Onward old e base nodes (tree_at old.heap.names nodes) before (work ++ pairs at (take k values))) where

@@ -1,9 +1,8 @@
-use Rattle.std.proofs.Common.{◌∙◌, ◌<◌, ap, arith}
+use Rattle.std.proofs.Common.{◌∙◌, ap}
 use Rattle.plterm.specs.Tree.{var}
-use Rattle.plsubst.specs.Subst.{put}
 use Rattle.plcells.specs.Store.{value}
 use Rattle.plhead.proofs.Verdicts.{no}
-use Rattle.plhead.proofs.Slots.{fresh-absent, keeps-same, keeps-trans, put-is, put-yes}
+use Rattle.plhead.proofs.Slots.{keeps-trans, put-yes}
 use Rattle.plhead.proofs.head.meet_free.Goals as goal
 
 pub take-requires-clause-older : goal.take-requires-clause-older

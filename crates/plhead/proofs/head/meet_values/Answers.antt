@@ -1,6 +1,6 @@
-use Rattle.std.proofs.Common.{◌≡◌, ◌+◌, ◌-◌, ◌<◌, ◌++◌, length, take, get_or, arith, le_refl, append-nil, refl, subst, sym}
+use Rattle.std.proofs.Common.{◌≡◌, ◌+◌, ◌-◌, ◌<◌, ◌++◌, [], ◌∷◌, length, take, arith, le_refl, append-nil, subst, sym}
 use Rattle.std.proofs.lemmas.List.{take_all}
-use Rattle.plcells.specs.declared.cell.Cell.TheVariants.{Free}
+use Rattle.plenv.specs.Env.{Env}
 use Rattle.plenv.specs.Rows.{tree_at}
 use Rattle.plhead.specs.Equations.{pairs}
 use Rattle.plhead.specs.Progress.{Onward}
@@ -35,8 +35,8 @@ takes-requires-clause-is c =
 pub returns-in_err-takes-clause-keeps : goal.returns-in_err-takes-clause-keeps
 returns-in_err-takes-clause-keeps c = keeps-trans c.args.env.now c.loop-i.env c.takes.new.env c.loop-i.invariant.keeps c.takes.ensures.keeps
 
-pub loop-i-preserved-else-not-branch : goal.loop-i-preserved-else-not-branch
-loop-i-preserved-else-not-branch c =
+pub loop-i-preserved : goal.loop-i-preserved
+loop-i-preserved c =
     let l = c.loop-i in
     let up : l.i ≡ l.i - 1 + 1 = omega (arith, c.loop-i-test.true) in
     let lt : l.i - 1 < length c.args.values.now = omega (arith, l.invariant.most, up) in
@@ -47,14 +47,21 @@ loop-i-preserved-else-not-branch c =
       keeps = keeps-trans c.args.env.now l.env c.takes.new.env l.invariant.keeps c.takes.ensures.keeps;
     }
 
-pub loop-i-preserved : goal.loop-i-preserved
-loop-i-preserved c =
+pub loop-i-preserved-in_ok-push : goal.loop-i-preserved-in_ok-push
+loop-i-preserved-in_ok-push c =
     let l = c.loop-i in
     let up : l.i ≡ l.i - 1 + 1 = omega (arith, c.loop-i-test.true) in
     let lt : l.i - 1 < length c.args.values.now = omega (arith, l.invariant.most, up) in
     let before = c.args.work.now.items ++ pairs c.args.head.row.at c.args.values.now in
-    let same = c.in_ok-takes.ensures.no c.if-not-branch.true in
-    ?
+    let same : c.takes.new.env ≡ l.env = c.in_ok-takes.ensures.no c.if-not-branch.true in
+    let waits = value-waits c.args.env.now l.env c.args.head.base c.args.nodes.now c.requires.laid l.invariant.keeps before l.work.items c.args.head.row.at c.args.values.now
+    l.i (l.i - 1) c.index-values-i-then-not-branch.result _ up lt c.index-values-i-then-not-branch.is l.invariant.on in
+    record {
+      most = omega (arith, l.invariant.most);
+      on = subst (λ ws. Onward c.args.env.now c.takes.new.env c.args.head.base c.args.nodes.now (tree_at c.args.env.now.heap.names c.args.nodes.now) before (ws ++ pairs c.args.head.row.at (take (l.i - 1) c.args.values.now))) (sym c.in_ok-push.ensures.items)
+          (subst (λ (e : Env). Onward c.args.env.now e c.args.head.base c.args.nodes.now (tree_at c.args.env.now.heap.names c.args.nodes.now) before ((l.work.items ++ (c.args.head.row.at + (l.i - 1), c.index-values-i-then-not-branch.result) ∷ []) ++ pairs c.args.head.row.at (take (l.i - 1) c.args.values.now))) (sym same) waits);
+      keeps = keeps-trans c.args.env.now l.env c.takes.new.env l.invariant.keeps c.takes.ensures.keeps;
+    }
 
 pub returns-clause-ok : goal.returns-clause-ok
 returns-clause-ok c =

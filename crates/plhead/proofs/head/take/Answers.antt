@@ -7,8 +7,8 @@ use Rattle.plhead.proofs.head.take.Goals as goal
 pub returns-in_err-set-clause-keeps : goal.returns-in_err-set-clause-keeps
 returns-in_err-set-clause-keeps c = keeps-same c.args.env.now c.set.new.self c.in_err-set.ensures.err
 
-pub returns-in_ok-set-clause-ok : goal.returns-in_ok-set-clause-ok
-returns-in_ok-set-clause-ok c =
+pub returns-clause-ok : goal.returns-clause-ok
+returns-clause-ok c =
     let h = c.args.env.now.heap in
     let n = c.args.number in
     record {

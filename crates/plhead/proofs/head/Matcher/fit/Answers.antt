@@ -1,13 +1,11 @@
-use Rattle.std.proofs.Common.{◌++◌, Ok, IfOk, Result, Bool, false, sym, ap, subst}
+use Rattle.std.proofs.Common.{◌++◌, IfOk, sym, ap, subst}
 use Rattle.plterm.specs.Tree.{Tree}
 use Rattle.plcode.proofs.Waiting.{IsLaid-names}
 use Rattle.plenv.specs.Rows.{row_at, tree_at}
 use Rattle.plhead.specs.Equations.{pairs, AreEquations}
 use Rattle.plhead.specs.Fitting.{Answers, Stands}
-use Rattle.plhead.specs.Progress.{Ends}
 use Rattle.plhead.proofs.Trees.{row-spread}
 use Rattle.plhead.proofs.Slots.{keeps-trans}
-use Rattle.plhead.proofs.Solving.{ended}
 use Rattle.plhead.proofs.Steps.{equations-now, stood-onward}
 use Rattle.plhead.proofs.Rows.{row-equations, row-no, row-yes}
 use Rattle.plhead.proofs.head.Matcher.fit.Goals as goal
