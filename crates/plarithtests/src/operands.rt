@@ -100,7 +100,7 @@ fn put_and_seen(
 }
 
 /// A term, what it is seen to be, and what it comes to.
-const SEEN: [(Shaped, &str, &str); 9] = [
+const SEEN: [(Shaped, &str, &str); 13] = [
     (Shaped::Var, "instantiation_error", "instantiation_error"),
     (Shaped::Int(-3), "-3", "-3"),
     (
@@ -119,6 +119,18 @@ const SEEN: [(Shaped, &str, &str); 9] = [
         "type_error(evaluable,f/1)",
         "type_error(evaluable,f/1)",
     ),
+    (Shaped::One("abs", -9), "one, 7", "9"),
+    (
+        Shaped::Two("abs", 9, 9),
+        "type_error(evaluable,abs/2)",
+        "type_error(evaluable,abs/2)",
+    ),
+    (
+        Shaped::One("mod", 9),
+        "type_error(evaluable,(mod)/1)",
+        "type_error(evaluable,(mod)/1)",
+    ),
+    (Shaped::Two("mod", 9, 5), "two, 1", "4"),
     (Shaped::Two("-", 3, 4), "two, 5", "-1"),
     (
         Shaped::Two("//", 3, 0),
@@ -161,40 +173,23 @@ fn operands(rt: HostRuntime) -> Result<(), Fail> {
     Ok(())
 }
 
-/// The integer 9.
-fn nine() -> Operand {
-    Operand::Value(Cell::Int(9))
-}
-
-/// What a compound of so many arguments, all of them the integer 9, is seen to be.
-fn opened(name: &Name, count: u16) -> Result<Opened, AllocError> {
-    match count {
-        1 => Opened::of_one(name, nine()),
-        2 => Opened::of_two(name, nine(), nine()),
-        _ => Opened::unknown(name, count),
-    }
-}
-
-/// The same of a name's text, told.
-fn compound(alloc: Global, name: &str, count: u16) -> Result<String, AllocError> {
+/// What a name with so many arguments is seen to be that is not evaluable.
+fn unknown(alloc: Global, name: &str, count: u16) -> Result<String, AllocError> {
     let name = Name::new(alloc, name)?;
-    told(alloc, &opened(&name, count)?)
+    told(alloc, &Opened::unknown(&name, count)?)
 }
 
-/// A name, how many arguments a compound has, and what it is seen to be.
-const COMPOUNDS: [(&str, u16, &str); 6] = [
-    ("abs", 1, "one, 7"),
+/// A name, a number of arguments with which it is not evaluable, and what it is seen to be.
+const UNKNOWN: [(&str, u16, &str); 3] = [
     ("abs", 2, "type_error(evaluable,abs/2)"),
-    ("mod", 1, "type_error(evaluable,(mod)/1)"),
-    ("mod", 2, "two, 1"),
     ("mod", 3, "type_error(evaluable,(mod)/3)"),
     ("f", 0, "type_error(evaluable,f/0)"),
 ];
 
 #[test]
-fn compounds(rt: HostRuntime) -> Result<(), Fail> {
-    for (name, count, opened) in COMPOUNDS {
-        let found = compound(rt.alloc(), name, count)?;
+fn names_that_are_not_evaluable(rt: HostRuntime) -> Result<(), Fail> {
+    for (name, count, opened) in UNKNOWN {
+        let found = unknown(rt.alloc(), name, count)?;
         assert!(rt; found.as_str() == opened, "{name}/{count}");
     }
     Ok(())

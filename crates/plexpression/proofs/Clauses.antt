@@ -106,11 +106,11 @@ module _ (e : Env) (nodes : List Node) (base : ℕ) where
   by_operation : (root k : ℕ) (name : List ℕ) (t : Tree) → t ≡ bind (over e base) (compound name (trees (spread (tree_at e.heap.names nodes) (suc root) k))) → ((j : ℕ) → root < j → j ≤ root + k → IsNode e nodes base j) → (o : Option Operation) → operation_of name k ≡ o →
       Opens (tree e nodes base) (IsOperand e nodes base) t (seen_by o name k root)
   unfolding bind
-  by_operation root k name t is each None none =
+  by_operation root k name t is each None missing =
       let us = spread (tree_at e.heap.names nodes) (suc root) k in
       let bound = bind_all (over e base) (trees us) in
       opens_none (tree e nodes base) (IsOperand e nodes base) t name (list_of bound) k (is ∙ ap (compound name) (sym (trees-list_of bound)))
-      (length-bind_all (over e base) (trees us) ∙ ap length (list_of-trees us) ∙ length-spread (tree_at e.heap.names nodes) k (suc root)) none
+      (length-bind_all (over e base) (trees us) ∙ ap length (list_of-trees us) ∙ length-spread (tree_at e.heap.names nodes) k (suc root)) missing
   by_operation root k name t is each (Some (ops.One f)) known =
       let one = is_one name k f known in
       let first = ap (λ j. tree e nodes base (operands.Node j)) (next root) in
