@@ -6,7 +6,7 @@ ghost use Rattle.plstack.specs.Levels.{Precedes};
 ghost use Rattle.plstack.specs.State.{goals_of, kinds_in, IsList};
 
 use crate::back::truth;
-use crate::first::{pass, pick, unify_first};
+use crate::first::{behind, pass, pick, unify_first};
 use crate::state::{number, text_of};
 use planswers::answer::Answer;
 use planswers::equation::list_equation;
@@ -184,19 +184,26 @@ fn both(stack: &mut Stack, alloc: Global) -> Result<String, Fail> {
     text_of(stack, alloc, first)
 }
 
+/// Where the slots end of the clause whose goal is the first of the visited list.
+fn end_of(stack: &Stack) -> Result<u32, Fail> {
+    match stack.first() {
+        First::Step(run, _, _) => Ok(run.end),
+        _ => Err("no goal of a clause".into()),
+    }
+}
+
 /// Visits the list behind the first of the visited list, a goal of a clause's body: whether a search goes on there, and whether it does so in
 /// the list that was visited before, up to another slot, and with another number of open cases.
 fn goes_on(stack: &mut Stack, alloc: Global) -> Result<String, Fail> {
-    let First::Step(run, _, rest) = stack.first() else {
-        return Err("no goal of a clause".into());
-    };
+    let end = end_of(stack)?;
     let before = stack.visited();
     let depth = stack.depth();
+    let rest = behind(stack)?;
     stack.visit(rest);
-    let on = truth(stack.goes_on(&rest, run.end, depth));
-    let back = truth(stack.goes_on(&before, run.end, depth));
-    let wider = truth(stack.goes_on(&rest, run.end.wrapping_add(1), depth));
-    let deeper = truth(stack.goes_on(&rest, run.end, Level::BOTTOM));
+    let on = truth(stack.goes_on(&rest, end, depth));
+    let back = truth(stack.goes_on(&before, end, depth));
+    let wider = truth(stack.goes_on(&rest, end.wrapping_add(1), depth));
+    let deeper = truth(stack.goes_on(&rest, end, Level::BOTTOM));
     Ok(format!(in alloc; "{on} {back} {wider} {deeper}")?)
 }
 
