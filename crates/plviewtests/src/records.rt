@@ -2,6 +2,7 @@
 use crate::made::name;
 use plclausemade::made::{First, fact};
 use plrecords::Record;
+use plrecords::ends::wide;
 use plterm::error::TermError;
 use plterm::indicator::Indicator;
 use plterm::name::Name;
@@ -85,5 +86,20 @@ fn wrong_procedure(alloc: Global) -> Result<Option<usize>, TermError> {
 #[test]
 fn records_of_procedures(rt: HostRuntime) -> Result<(), Fail> {
     assert_eq!(rt; wrong_procedure(rt.alloc())?, None);
+    Ok(())
+}
+
+/// The number of a record, and that as an index.
+const INDICES: [(Option<u32>, Option<usize>); 3] = [
+    (None, None),
+    (Some(0), Some(0)),
+    (Some(4294967295), Some(4294967295)),
+];
+
+#[test]
+fn numbers_as_indices(rt: HostRuntime) -> Result<(), Fail> {
+    for (number, index) in INDICES {
+        assert_eq!(rt; wide(number), index);
+    }
     Ok(())
 }
