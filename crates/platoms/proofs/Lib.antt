@@ -1,4 +1,5 @@
 mod Tables
 mod Copying
 mod Growing
+mod Layers
 pub mod Extending

@@ -1,11 +1,12 @@
 -- A name that is looked up, and put behind the others where it is new.
-use Rattle.std.proofs.Common.{◌≡◌, ℕ, zero, suc, ◌+◌, ◌<◌, ◌≤◌, ◌==◌, eqb-true, eq-eqb, ap₂, Bool, true, false, ◌&&◌, ◌||◌, List, [], ◌∷◌, ◌++◌, length, length-append, get_or, Some, refl, sym, ap, ◌∙◌, subst, arith, inl, inr, if◌then◌else◌}
+use Rattle.std.proofs.Common.{◌≡◌, ℕ, zero, suc, ◌<◌, ◌≤◌, ◌==◌, eqb-true, eq-eqb, ap₂, Bool, true, false, ◌&&◌, ◌||◌, List, [], ◌∷◌, ◌++◌, length, length-append, get_or, Some, refl, sym, ap, ◌∙◌, subst, arith, inl, inr, if◌then◌else◌}
 use Rattle.std.specs.Bool.{Decides}
 use Rattle.std.specs.List.{list_any, slice_get}
 use Rattle.std.proofs.lemmas.Bool.{cases_lt}
 use Rattle.std.proofs.lemmas.List.{get_or_append_left, get_or_push}
 use Rattle.indexmap.specs.IndexSet.{insert_key}
 use Rattle.platoms.specs.declared.names.Functor.{Functor}
+use Rattle.platoms.specs.Names.{same_functor}
 
 -- what a place holds
 pub get-is : {X : Type 0} (xs : List X) (i : ℕ) (x d : X) → slice_get xs i ≡ Some x → (i < length xs) × (get_or xs i d ≡ x)
@@ -14,7 +15,7 @@ get-is (y ∷ ys) zero x d e = (omega arith, grind (arith, e))
 get-is (y ∷ ys) (suc i) x d e = let r = get-is ys i x d e in (omega (arith, r.0), r.1)
 
 module _ {X : Type 0} (eq : X → X → Bool) (decides : (x y : X) → Decides (eq x y) (x ≡ y)) (d : X) where
-  absent : (xs : List X) (x : X) → list_any (eq x) xs ≡ false → (i : ℕ) → i < length xs → get_or xs i d ≡ x → ⊥
+  pub absent : (xs : List X) (x : X) → list_any (eq x) xs ≡ false → (i : ℕ) → i < length xs → get_or xs i d ≡ x → ⊥
   absent [] x none i lt e = absurd (omega arith)
   absent (y ∷ ys) x none zero lt e =
       let is : eq x y ≡ true = (decides x y).1 (sym e) in
@@ -25,10 +26,10 @@ module _ {X : Type 0} (eq : X → X → Bool) (decides : (x y : X) → Decides (
       rest true q e = absurd (grind (arith, e))
       rest false q e = e
 
-  abbrev Once : List X → Type 0
+  abbrev pub Once : List X → Type 0
   Once xs = (i j : ℕ) → i < length xs → j < length xs → get_or xs i d ≡ get_or xs j d → i ≡ j
 
-  once-push : (xs : List X) (x : X) → Once xs → ((i : ℕ) → i < length xs → get_or xs i d ≡ x → ⊥) → Once (xs ++ x ∷ [])
+  pub once-push : (xs : List X) (x : X) → Once xs → ((i : ℕ) → i < length xs → get_or xs i d ≡ x → ⊥) → Once (xs ++ x ∷ [])
   once-push xs x once new i j il jl e = elim (cases_lt i (length xs)) [
     | inl io ↦ elim (cases_lt j (length xs)) [
       | inl jo ↦ once i j io jo (sym (old i io) ∙ e ∙ old j jo)
@@ -46,7 +47,7 @@ module _ {X : Type 0} (eq : X → X → Bool) (decides : (x y : X) → Decides (
       last : (k : ℕ) → k ≡ length xs → get_or (xs ++ x ∷ []) k d ≡ x
       last k is = get_or_push xs x d k (sym is)
 
-  all-push : (P : X → Type 0) (xs : List X) (x : X) → ((i : ℕ) → i < length xs → P (get_or xs i d)) → P x → (i : ℕ) → i < length (xs ++ x ∷ []) → P (get_or (xs ++ x ∷ []) i d)
+  pub all-push : (P : X → Type 0) (xs : List X) (x : X) → ((i : ℕ) → i < length xs → P (get_or xs i d)) → P x → (i : ℕ) → i < length (xs ++ x ∷ []) → P (get_or (xs ++ x ∷ []) i d)
   all-push P xs x all here i lt = elim (cases_lt i (length xs)) [
     | inl io ↦ subst P (sym (get_or_append_left xs (x ∷ []) d i io)) (all i io)
     | inr last ↦ subst P (sym (get_or_push xs x d i (omega (arith, lt, length-append xs (x ∷ []))))) here
@@ -66,21 +67,8 @@ module _ {X : Type 0} (eq : X → X → Bool) (decides : (x y : X) → Decides (
   pub insert_keeps : (xs : List X) (x : X) (i : ℕ) → i < length xs → get_or (insert_key eq xs x) i d ≡ get_or xs i d
   insert_keeps xs x i lt = by_case (λ ys. get_or ys i d ≡ get_or xs i d) (list_any (eq x) xs) xs x refl (λ none. get_or_append_left xs (x ∷ []) d i lt)
 
-  -- what makes them more stands behind the others, and what does not was there
-  pub insert_new : (xs : List X) (x : X) (b : Bool) → length (insert_key eq xs x) ≡ length xs + (if b then 1 else 0) → b ≡ true → insert_key eq xs x ≡ xs ++ x ∷ []
-  insert_new xs x true e is = by_case (λ ys. length ys ≡ length xs + 1 → ys ≡ xs ++ x ∷ []) (list_any (eq x) xs) xs x (λ h. absurd (omega (arith, h))) (λ none h. refl) e
-  insert_new xs x false e is = absurd (cc)
-
-  pub insert_same : (xs : List X) (x : X) (b : Bool) → length (insert_key eq xs x) ≡ length xs + (if b then 1 else 0) → b ≡ false → insert_key eq xs x ≡ xs
-  insert_same xs x false e is = by_case (λ ys. length ys ≡ length xs + 0 → ys ≡ xs) (list_any (eq x) xs) xs x (λ h. refl) (λ none h. absurd (omega (arith, h, length-append xs (x ∷ [])))) e
-  insert_same xs x true e is = absurd (cc)
-
   pub insert_longer : (xs : List X) (x : X) → length xs ≤ length (insert_key eq xs x)
   insert_longer xs x = by_case (λ ys. length xs ≤ length ys) (list_any (eq x) xs) xs x (omega arith) (λ none. omega (arith, length-append xs (x ∷ [])))
-
--- whether name and arity are the same
-abbrev pub same_functor : Functor → Functor → Bool
-same_functor a b = (a.name == b.name) && (a.arity == b.arity)
 
 both : (p q : Bool) → (p && q) ≡ true → (p ≡ true) × (q ≡ true)
 both true q e = (refl, e)

@@ -1,7 +1,11 @@
 -- Names by number.
-use Rattle.std.specs.Prelude.{◌≡◌, ℕ, ◌<◌, ◌≤◌, List, [], length, take, get_or, Option, None}
+use Rattle.std.specs.Prelude.{◌≡◌, ℕ, ◌<◌, ◌≤◌, ◌==◌, Bool, ◌&&◌, List, [], length, take, get_or, Option, Some, None}
+use Rattle.std.specs.Arc.{arc_value}
+use Rattle.std.specs.declared.sync.Arc.{Arc}
+use Rattle.indexmap.specs.IndexSet.{IndexSet}
 use Rattle.plterm.specs.Reading.{IsName}
 use Rattle.platoms.specs.declared.evaluable.Operation.{Operation}
+use Rattle.platoms.specs.declared.names.Entry.{Entry}
 use Rattle.platoms.specs.declared.names.Functor.{Functor}
 use Rattle.platoms.specs.Evaluable.{operation_of}
 
@@ -13,8 +17,15 @@ pub record Table : Type 0 where
 abbrev pub atom_at : Table → ℕ → List ℕ
 atom_at t a = get_or t.atoms a []
 
+abbrev pub no_functor : Functor
+no_functor = record { name = 0; arity = 0 }
+
 abbrev pub functor_at : Table → ℕ → Functor
-functor_at t f = get_or t.functors f (record { name = 0; arity = 0 })
+functor_at t f = get_or t.functors f no_functor
+
+-- whether name and arity are the same
+abbrev pub same_functor : Functor → Functor → Bool
+same_functor a b = (a.name == b.name) && (a.arity == b.arity)
 
 -- the name of a functor
 abbrev pub functor_name : Table → ℕ → List ℕ
@@ -53,7 +64,15 @@ pub record HasFunctor (t : Table) (f : ℕ) (k : Functor) : Type 0 where
   pub within : f < length t.functors
   pub is : functor_at t f ≡ k
 
--- each functor's operation stands at its number
-pub record Evaluates (t : Table) (operations : List (Option Operation)) : Type 0 where
-  pub count : length operations ≡ length t.functors
-  pub each : (f : ℕ) → f < length t.functors → get_or operations f None ≡ operation_at t f
+abbrev pub no_entry : Entry
+no_entry = record { functor = no_functor; operation = None }
+
+-- each functor, and what it evaluates to, stands at its number
+pub record Lists (t : Table) (entries : List Entry) : Type 0 where
+  pub count : length entries ≡ length t.functors
+  pub each : (f : ℕ) → f < length t.functors → get_or entries f no_entry ≡ record { functor = functor_at t f; operation = operation_at t f }
+
+-- the keys of a set that is shared, if there is one
+abbrev pub keys_of : {X S Z : Type 0} → Option (Arc (IndexSet X S) Z) → List X
+keys_of None = []
+keys_of (Some set) = (arc_value set).keys

@@ -1,11 +1,13 @@
 //! The table of names.
 
-ghost use Rattle.std.specs.Prelude.{◌≡◌, ◌<◌, ◌≤◌, ◌-◌, ◌^◌, [], length, IfOk, IfSome, OnOk, OnErr};
+ghost use Rattle.std.specs.Prelude.{◌≡◌, ◌<◌, [], length, false, IfOk, IfSome, OnErr};
+ghost use Rattle.std.specs.List.{list_any};
 ghost use Rattle.plterm.specs.Reading.{IsName};
-ghost use Rattle.platoms.specs.Names.{Table, IsTable, IsFunctor, Extends, HasAtom, HasFunctor, atom_at, functor_at, operation_at};
+ghost use Rattle.platoms.specs.Names.{Table, IsTable, IsFunctor, Extends, HasAtom, HasFunctor, atom_at, functor_at, operation_at, same_functor};
 
+use crate::atoms::Atoms;
 use crate::evaluable::Operation;
-use indexmap::IndexSet;
+use crate::functors::Functors;
 use plterm::name::Name;
 use std::alloc::{AllocError, Global};
 use std::marker::Model;
@@ -20,51 +22,34 @@ pub struct Functor {
 /// How many names, and functors, that were asked for lately are found without a look-up.
 const RECENT: usize = 64;
 
-/// The names of atoms and the functors of compounds, by number. A table holds fewer than 2^32 of each.
+/// A functor, and what it evaluates to, if it is evaluable.
+#[derive(Clone, Copy, Drop)]
+struct Entry {
+    functor: Functor,
+    operation: Option<Operation>,
+}
+
+/// The names of atoms and the functors of compounds, by number. A table holds fewer than 2^32 of each. Those of a frozen table are shared with
+/// its copies, and stand below what a copy gains.
 #[derive(Drop)]
 pub struct Names {
-    atoms: IndexSet<Name>,
-    functors: IndexSet<Functor>,
-    /// What each functor evaluates to, if it is evaluable.
-    operations: Vec<Option<Operation>>,
+    atoms: Atoms,
+    functors: Functors,
+    /// All functors at their numbers, so that one is read without asking whether it is shared.
+    entries: Vec<Entry>,
     /// Numbers of names and of functors that were asked for lately, by their places. Nothing but time depends on them.
     recent_atoms: [u32; RECENT],
     recent_functors: [u32; RECENT],
 }
 
 impl Model for Names {
-    ghost use Rattle.platoms.specs.Names.{Table, IsTable, Evaluates};
+    ghost use Rattle.platoms.specs.Names.{Table, IsTable, Lists};
 
     ghost Value = { Table };
 
-    ghost view = { λ a. record { atoms = a.atoms.keys; functors = a.functors.keys } };
+    ghost view = { λ a. record { atoms = a.atoms; functors = a.functors } };
 
-    ghost invariant = { λ a. IsTable (record { atoms = a.atoms.keys; functors = a.functors.keys }) × Evaluates (record { atoms = a.atoms.keys; functors = a.functors.keys }) a.operations.items };
-}
-
-/// The same names in the same order, in time linear in them.
-fn copied_atoms(alloc: Global, atoms: &IndexSet<Name>) -> Result<IndexSet<Name>, AllocError>
-    ensures { IfOk result (λ copy. copy.keys ≡ atoms.now.keys) }
-{
-    let mut copy = IndexSet::new(alloc);
-    for name in atoms.as_slice() {
-        copy.insert(name.copied()?)?;
-    }
-    Ok(copy)
-}
-
-/// The same functors in the same order, in time linear in them.
-fn copied_functors(
-    alloc: Global,
-    functors: &IndexSet<Functor>,
-) -> Result<IndexSet<Functor>, AllocError>
-    ensures { IfOk result (λ copy. copy.keys ≡ functors.now.keys) }
-{
-    let mut copy = IndexSet::new(alloc);
-    for functor in functors.as_slice() {
-        copy.insert(*functor)?;
-    }
-    Ok(copy)
+    ghost invariant = { λ a. IsTable (record { atoms = a.atoms; functors = a.functors }) × Lists (record { atoms = a.atoms; functors = a.functors }) a.entries.items };
 }
 
 /// Where the number of a name is noted when it was asked for: names of other lengths or with other ends mostly have other places.
@@ -93,26 +78,41 @@ impl Names {
         ensures table { IsTable result }
     {
         Names {
-            atoms: IndexSet::new(alloc),
-            functors: IndexSet::new(alloc),
-            operations: Vec::new(alloc),
+            atoms: Atoms::new(alloc),
+            functors: Functors::new(alloc),
+            entries: Vec::new(alloc),
             recent_atoms: [0; RECENT],
             recent_functors: [0; RECENT],
         }
     }
 
-    /// The same table again, in time linear in its names. What one of the two gains later the other does not have.
+    /// The same table, whose names its copies share. A table is frozen once: what it gains later its copies copy.
+    pub fn frozen(self, alloc: Global) -> Result<Names, AllocError>
+        ensures is { IfOk result (λ names. names ≡ self) }
+        ensures table { IfOk result (λ names. IsTable names) }
+    {
+        Ok(Names {
+            atoms: self.atoms.frozen(alloc)?,
+            functors: self.functors.frozen(alloc)?,
+            entries: self.entries,
+            recent_atoms: self.recent_atoms,
+            recent_functors: self.recent_functors,
+        })
+    }
+
+    /// The same table again, in time linear in its functors, and in its names that are not frozen. What one of the two gains later the other
+    /// does not have.
     pub fn copied(&self, alloc: Global) -> Result<Names, AllocError>
         ensures is { IfOk result (λ names. names ≡ self.now) }
         ensures table { IfOk result (λ names. IsTable names) }
     {
-        let atoms = copied_atoms(alloc, &self.atoms)?;
-        let functors = copied_functors(alloc, &self.functors)?;
-        let operations = self.operations.to_vec(alloc)?;
+        let atoms = self.atoms.copied(alloc)?;
+        let functors = self.functors.copied(alloc)?;
+        let entries = self.entries.to_vec(alloc)?;
         Ok(Names {
             atoms,
             functors,
-            operations,
+            entries,
             recent_atoms: self.recent_atoms,
             recent_functors: self.recent_functors,
         })
@@ -146,12 +146,9 @@ impl Names {
         ensures table { IsTable self.new }
         ensures err { OnErr result (self.new ≡ self.old) }
     {
-        if self.atoms.len() >= u32::MAX as usize {
-            return Err(AllocError);
-        }
-        let (place, _) = self.atoms.insert_full(name)?;
-        self.recent_atoms[recent] = place as u32;
-        Ok(place as u32)
+        let a = self.atoms.put(name)?;
+        self.recent_atoms[recent] = a;
+        Ok(a)
     }
 
     /// The number of a name, if it is the one that was asked for last at a place.
@@ -161,7 +158,7 @@ impl Names {
         ensures table { IsTable self.now }
     {
         let a = self.recent_atoms[recent];
-        let held = self.atoms.get_index(a as usize)?;
+        let held = self.atoms.get(a)?;
         if held.is_same(name) { Some(a) } else { None }
     }
 
@@ -171,8 +168,12 @@ impl Names {
         ensures { IfSome result (λ f. HasFunctor self.now f functor) }
     {
         let f = self.recent_functors[recent];
-        let held = *self.functors.get_index(f as usize)?;
-        if held == functor { Some(f) } else { None }
+        let held = self.entries.get(f as usize)?;
+        if held.functor == functor {
+            Some(f)
+        } else {
+            None
+        }
     }
 
     /// The number of a functor, which is a new one where the table does not have it. A full table takes no call.
@@ -188,18 +189,18 @@ impl Names {
         if let Some(f) = self.recent_functor(recent, functor) {
             return Ok(f);
         }
-        if self.functors.len() >= u32::MAX as usize {
-            return Err(AllocError);
-        }
-        let f = self.functor_in(functor)?;
+        let f = match self.functors.find(functor) {
+            Some(f) => f,
+            None => self.new_functor(functor)?,
+        };
         self.recent_functors[recent] = f;
         Ok(f)
     }
 
-    /// The number of a functor, looked for in the whole table, which is not full.
-    fn functor_in(&mut self, functor: Functor) -> Result<u32, AllocError>
+    /// The number of a functor that the table does not have.
+    fn new_functor(&mut self, functor: Functor) -> Result<u32, AllocError>
         requires fits { IsFunctor self.old functor }
-        requires room { length self.old.functors < 2 ^ 32 - 1 }
+        requires new { list_any (same_functor functor) self.old.functors ≡ false }
         ensures is { IfOk result (λ f. HasFunctor self.new f functor) }
         ensures extends { Extends self.old self.new }
         ensures atoms { self.new.atoms ≡ self.old.atoms }
@@ -208,15 +209,11 @@ impl Names {
     {
         let name = self.atom_name(functor.name);
         let operation = Operation::of(name.as_str(), functor.arity);
-        self.operations.push(operation)?;
-        match self.functors.insert_full(functor) {
-            Ok((place, true)) => Ok(place as u32),
-            Ok((place, false)) => {
-                self.operations.pop();
-                Ok(place as u32)
-            }
+        self.entries.push(Entry { functor, operation })?;
+        match self.functors.push(functor) {
+            Ok(f) => Ok(f),
             Err(_) => {
-                self.operations.pop();
+                self.entries.pop();
                 Err(AllocError)
             }
         }
@@ -228,7 +225,7 @@ impl Names {
         ensures is { result.now ≡ atom_at self.now a }
         ensures table { IsTable self.now }
     {
-        let Some(name) = self.atoms.get_index(a as usize) else {
+        let Some(name) = self.atoms.get(a) else {
             unreachable!()
         };
         name
@@ -241,10 +238,7 @@ impl Names {
         ensures fits { IsFunctor self.now result }
         ensures table { IsTable self.now }
     {
-        let Some(functor) = self.functors.get_index(f as usize) else {
-            unreachable!()
-        };
-        *functor
+        self.entries[f as usize].functor
     }
 
     /// What the functor with a number evaluates to, if it is evaluable.
@@ -252,6 +246,6 @@ impl Names {
         requires { f < length self.now.functors }
         ensures { result ≡ operation_at self.now f }
     {
-        self.operations[f as usize]
+        self.entries[f as usize].operation
     }
 }

@@ -29,6 +29,7 @@ use plprogram::program::Program;
 use plterm::name::Name;
 use std::alloc::{AllocError, Global};
 use std::marker::Model;
+use std::sync::Arc;
 
 /// What a kind is called as.
 fn kind_callee(kind: Kind) -> Callee
@@ -169,7 +170,7 @@ impl Model for ProgramCode {
 }
 
 impl ProgramCode {
-    /// Compiles a program, in time linear in the nodes of its clauses.
+    /// Compiles a program, in time linear in the nodes of its clauses. Its names are frozen: a copy of them copies no name.
     pub fn new(alloc: Global, program: &Program) -> Result<ProgramCode, AllocError>
         ensures code { IfOk result (λ made. IsProgramCode program.now made) }
         ensures end { IfOk result (λ made. goals_from made.text 0 0 ≡ []) }
@@ -177,6 +178,7 @@ impl ProgramCode {
         let mut draft = Draft::new(alloc)?;
         let (procedures, callees) = compiled(alloc, &mut draft, program)?;
         let (code, names) = Code::of(draft);
+        let names = names.frozen(alloc)?;
         Ok(ProgramCode {
             names,
             code,
@@ -235,5 +237,46 @@ impl ProgramCode {
         ensures laid { IsLaid self.now.text.names self.now.text.nodes }
     {
         self.code.nodes()
+    }
+}
+
+/// The code of a program that many hold: a copy of it is the same one.
+#[derive(Drop)]
+pub struct SharedCode {
+    code: Arc<ProgramCode>,
+}
+
+impl Model for SharedCode {
+    ghost use Rattle.std.specs.Arc.{arc_value};
+    ghost use Rattle.plcode.specs.Callees.{Compiled};
+
+    ghost Value = { Compiled };
+
+    ghost view = { λ a. arc_value a.code };
+}
+
+impl SharedCode {
+    /// The code, which is shared from now on.
+    pub fn new(alloc: Global, code: ProgramCode) -> Result<SharedCode, AllocError>
+        ensures { IfOk result (λ shared. shared ≡ code) }
+    {
+        let code = Arc::new(alloc, code)?;
+        Ok(SharedCode { code })
+    }
+
+    /// The code itself.
+    #[inline(always)]
+    pub fn code(&self) -> &ProgramCode
+        ensures { result.now ≡ self.now }
+    {
+        &*self.code
+    }
+
+    /// The same code again, of which nothing is copied.
+    pub fn copied(&self) -> Result<SharedCode, AllocError>
+        ensures { IfOk result (λ shared. shared ≡ self.now) }
+    {
+        let code = Arc::try_clone(&self.code)?;
+        Ok(SharedCode { code })
     }
 }

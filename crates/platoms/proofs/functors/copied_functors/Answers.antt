@@ -1,7 +1,8 @@
 use Rattle.std.proofs.Common.{◌∙◌, ap, get_or, length, arith}
-use Rattle.platoms.proofs.Tables.{same_functor, same_functor-Decides}
+use Rattle.platoms.specs.Names.{same_functor}
+use Rattle.platoms.proofs.Tables.{same_functor-Decides}
 use Rattle.platoms.proofs.Copying.{put_more, put_all}
-use Rattle.platoms.proofs.names.copied_functors.Goals as goal
+use Rattle.platoms.proofs.functors.copied_functors.Goals as goal
 
 pub loop-functor-preserved : goal.loop-functor-preserved
 loop-functor-preserved c =

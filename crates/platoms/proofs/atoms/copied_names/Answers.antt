@@ -1,12 +1,12 @@
 use Rattle.std.proofs.Common.{◌∙◌, ap, get_or, length, bytes_eq, arith}
 use Rattle.std.proofs.lemmas.Slice.Eq.{bytes_eq-Decides}
 use Rattle.platoms.proofs.Copying.{put_more, put_all}
-use Rattle.platoms.proofs.names.copied_atoms.Goals as goal
+use Rattle.platoms.proofs.atoms.copied_names.Goals as goal
 
 pub loop-name-preserved : goal.loop-name-preserved
 loop-name-preserved c =
     let i = c.loop-name.name-index in
-    let xs = c.args.atoms.now.keys in
+    let xs = c.args.names.now.keys in
     let d = c.name-item.result in
     let items = c.as_slice-name-items.ensures.keys in
     let name = c.in_ok-copied.ensures ∙ c.name-item.is ∙ ap (λ zs. get_or zs i d) items in
@@ -15,4 +15,4 @@ loop-name-preserved c =
 pub returns : goal.returns
 returns c =
     let items = c.as_slice-name-items.ensures in
-    put_all bytes_eq bytes_eq-Decides c.args.atoms.now.keys c.loop-name.copy.keys c.loop-name.name-index (omega (arith, ap length items.keys)) items.unique c.loop-name.invariant
+    put_all bytes_eq bytes_eq-Decides c.args.names.now.keys c.loop-name.copy.keys c.loop-name.name-index (omega (arith, ap length items.keys)) items.unique c.loop-name.invariant
