@@ -7,6 +7,7 @@ pub mod cell;
 pub mod equation;
 pub mod heap;
 pub mod id;
+pub mod laws;
 pub mod occurs;
 pub mod put;
 pub mod take;

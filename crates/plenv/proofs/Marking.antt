@@ -71,3 +71,6 @@ module _ (m : Mark) (e marked : Env) (now : cut m marked ≡ marked) (same : mar
   back-stays new back is table keeps within at =
       let kept = Preserves-renamed e.heap new.heap.names is.heap table (subst (λ x. ExtendsNames x.heap.names new.heap.names) same keeps.names) in
       subst (Stays e) (sym (given_back new back keeps within at)) (stays-grown e (renamed e new.heap.names).heap kept.values kept.keeps is.slots)
+
+  pub back-renamed : (new back : Env) → Keeps marked new → IsWithin m marked → back ≡ bounded e.heap.boundary e.boundary (cut m new) → back ≡ renamed e back.heap.names
+  back-renamed new back keeps within at = let given = given_back new back keeps within at in given ∙ ap (renamed e) (sym (ap (λ x. x.heap.names) given))

@@ -8,7 +8,7 @@ ghost use Rattle.platoms.specs.Names.{IsTable};
 ghost use Rattle.plcells.specs.Store.{value, AreValues, IsFresh, IsHeap, IsValue, Keeps as KeepsHeap};
 ghost use Rattle.plcells.specs.Putting.{standing};
 ghost use Rattle.plenv.specs.declared.slot.Slot.TheVariants.{Free as FreeSlot};
-ghost use Rattle.plenv.specs.Env.{cut, free_from, freed, noted_if, slot_at, IsEnv, IsMark, IsSlot, IsWithin};
+ghost use Rattle.plenv.specs.Env.{cut, free_from, freed, noted_if, renamed, slot_at, IsEnv, IsMark, IsSlot, IsWithin};
 ghost use Rattle.plenv.specs.Changes.{bounded, older, released, AddsVariables, Commits, Enters, Keeps, Lowers, Puts, PutsTerm, PutsVariables, Stays, Substitutes, Unifies};
 
 use crate::slot::{Mark, Noted, Slot};
@@ -401,7 +401,7 @@ impl Environment {
         Ok(values)
     }
 
-    /// Puts a term, whose variable x is what value number x stands for: its value.
+    /// Puts a term, whose variable x is what value number x stands for: its value. After an `Err` there may be more names, and nothing else.
     pub fn put_over(
         &mut self,
         alloc: Global,
@@ -412,12 +412,13 @@ impl Environment {
         requires values { AreValues self.old.heap values.now }
         ensures ok { IfOk result (λ v. Puts self.old self.new v (bind (standing self.old.heap values.now) term.now)) }
         ensures err { OnErr result (Stays self.old self.new) }
+        ensures back { OnErr result (self.new ≡ renamed self.old self.new.heap.names) }
     {
         self.heap.put(alloc, term, values)
     }
 
     /// Puts a term that is given by its nodes in prefix order from the end, whose variable x is what value number x stands for: its value. What
-    /// the stack held is gone.
+    /// the stack held is gone. After an `Err` there may be more names, and nothing else.
     pub fn put_nodes(
         &mut self,
         stack: &mut Vec<Argument>,
@@ -429,6 +430,7 @@ impl Environment {
         requires values { AreValues self.old.heap values.now }
         ensures ok { IfOk result (λ v. Puts self.old self.new v (bind (standing self.old.heap values.now) (tree_of (reverse nodes.now)))) }
         ensures err { OnErr result (Stays self.old self.new) }
+        ensures back { OnErr result (self.new ≡ renamed self.old self.new.heap.names) }
     {
         self.heap.put_nodes(stack, nodes, values)
     }
@@ -443,11 +445,12 @@ impl Environment {
         self.put_over(alloc, term, &values)
     }
 
-    /// Puts a term with variables below a count, which are new.
+    /// Puts a term with variables below a count, which are new. After an `Err` there may be more names, and nothing else.
     pub fn put_term(&mut self, alloc: Global, term: &Term, count: u32) -> Result<Cell, AllocError>
         requires { AllBelow count term.now }
         ensures ok { IfOk result (λ v. PutsTerm self.old self.new v (shift self.old.count term.now) count) }
         ensures err { OnErr result (Stays self.old self.new) }
+        ensures back { OnErr result (self.new ≡ renamed self.old self.new.heap.names) }
     {
         let cells = self.heap.boundary();
         let slots = self.boundary;

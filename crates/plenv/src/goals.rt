@@ -1,5 +1,5 @@
 //! Values as goals.
-ghost use Rattle.std.specs.Prelude.{◌≡◌, ℕ, ◌<◌, ◌≤◌, length, map, None, IfOk, IfSome, IfNone, OnOk};
+ghost use Rattle.std.specs.Prelude.{◌≡◌, ℕ, ◌<◌, ◌≤◌, length, map, None, IfOk, IfSome, IfNone, OnOk, OnErr};
 ghost use Rattle.plsubst.specs.Subst.{bind};
 ghost use Rattle.plclause.specs.Conversion.{converted};
 ghost use Rattle.plcells.specs.Store.{value, AreValues, IsValue};
@@ -10,7 +10,7 @@ ghost use Rattle.plgoals.specs.Goals.{IsGoal};
 ghost use Rattle.plgoals.specs.Extended.{Extends};
 ghost use Rattle.plenv.specs.Blocks.{block_at};
 ghost use Rattle.plenv.specs.Changes.{Stays};
-ghost use Rattle.plenv.specs.Env.{over, Covers};
+ghost use Rattle.plenv.specs.Env.{over, renamed, Covers};
 ghost use Rattle.plenv.specs.Rows.{tree_at};
 
 use crate::env::{Environment, known};
@@ -24,17 +24,20 @@ use plgoals::goal;
 use std::alloc::{AllocError, Global};
 
 impl Environment {
-    /// The goal that the term of a value stands for, if it is convertible: the goal's value (ISO/IEC 13211-1 7.6.2).
+    /// The goal that the term of a value stands for, if it is convertible: the goal's value (ISO/IEC 13211-1 7.6.2). After an `Err` there may be
+    /// more names, and nothing else.
     pub fn goal_of(&mut self, alloc: Global, v: Cell) -> Result<Option<Cell>, AllocError>
         requires { IsValue self.old.heap v }
         ensures some { IfOk result (λ found. IfSome found (λ w. IsGoal self.old.heap self.new.heap v w)) }
         ensures none { IfOk result (λ found. IfNone found ((converted (value self.old.heap v) ≡ None) × (self.new ≡ self.old))) }
         ensures stays { Stays self.old self.new }
+        ensures back { OnErr result (self.new ≡ renamed self.old self.new.heap.names) }
     {
         goal::goal_of(&mut self.heap, alloc, v)
     }
 
-    /// The term of a value with further arguments behind its own, as call/N makes it (ISO/IEC 13211-1 Cor.2 8.15.4).
+    /// The term of a value with further arguments behind its own, as call/N makes it (ISO/IEC 13211-1 Cor.2 8.15.4). After an `Err` there may be
+    /// more names, and nothing else.
     pub fn with_arguments(
         &mut self,
         alloc: Global,
@@ -47,6 +50,7 @@ impl Environment {
         requires few { length further.now ≤ 1024 }
         ensures is { IfOk result (λ r. Extends self.old.heap self.new.heap v further.now r) }
         ensures stays { Stays self.old self.new }
+        ensures back { OnErr result (self.new ≡ renamed self.old self.new.heap.names) }
     {
         extend::with_arguments(&mut self.heap, alloc, v, further)
     }

@@ -8,6 +8,7 @@
 mod block;
 pub mod env;
 pub mod goals;
+pub mod laws;
 pub mod named;
 pub mod put;
 pub mod slot;

@@ -8,4 +8,4 @@ pub mod status;
 
 pub use history::{History, Journal, Output, Places, Run, RunEnd, Runs};
 pub use report::report_text;
-pub use status::{Status, kind_word, refusal_text, status_of};
+pub use status::{Ending, Status, ending_of, kind_word, refusal_text, status_of};

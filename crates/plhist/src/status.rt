@@ -75,6 +75,26 @@ impl Status {
     }
 }
 
+/// How the process ends.
+#[derive(Clone, Copy)]
+pub struct Ending {
+    /// The line for standard error, without its newline; none where the output tells all.
+    pub line: Option<&'static str>,
+    /// The number that the process ends with.
+    pub number: u8,
+}
+
+/// How a call ends the process, whatever it came to.
+pub fn ending_of(status: Status) -> Ending
+    ensures line { option_copied result.line ≡ line_of status }
+    ensures number { result.number ≡ number_of status }
+{
+    Ending {
+        line: status.line(),
+        number: status.number(),
+    }
+}
+
 /// The word for a kind of refusal.
 pub fn kind_word(kind: RefusalKind) -> &'static str
     ensures { result.now ≡ kind_text kind }

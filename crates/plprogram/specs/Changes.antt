@@ -27,6 +27,15 @@ abbrev pub declared : ℕ → Kind → List (List ℕ) → List Entry → Result
 declared priority kind [] entries = Ok entries
 declared priority kind (name ∷ names) entries = unless (refusal priority kind name entries) name (declared priority kind names (added priority kind name entries))
 
+abbrev pub go_on : Option OpError → List Entry → List Entry → List Entry
+go_on None entries table = table
+go_on (Some cause) entries table = entries
+
+-- the table with the names before the first one that is refused, or with all of them
+abbrev pub until_refused : ℕ → Kind → List (List ℕ) → List Entry → List Entry
+until_refused priority kind [] entries = entries
+until_refused priority kind (name ∷ names) entries = go_on (refusal priority kind name entries) entries (until_refused priority kind names (added priority kind name entries))
+
 -- what `declare` answers: the table after it, or a refusal
 abbrev pub Declares : Result (List Entry) Refusal → List Entry → Result (Unit {0}) Refusal → Type 0
 Declares (Ok entries) new (Ok _) = new ≡ entries

@@ -1,6 +1,6 @@
 //! What a text or a goal changes of the operators and the flags: op/3 and set_prolog_flag/2.
-ghost use Rattle.std.specs.Prelude.{◌≡◌, IfOk, option_copied};
-ghost use Rattle.plprogram.specs.Changes.{declared, Declares, kind_named, quotes_named, unknown_named, is_read_only, flag_named};
+ghost use Rattle.std.specs.Prelude.{◌≡◌, ℕ, take, IfOk, OnOk, OnErr, option_copied};
+ghost use Rattle.plprogram.specs.Changes.{declared, Declares, until_refused, kind_named, quotes_named, unknown_named, is_read_only, flag_named};
 
 use crate::settings::Unknown;
 use plops::error::OpError;
@@ -37,15 +37,17 @@ pub enum FlagError {
     NoValue,
 }
 
-/// Makes names operators of a priority and a kind, one after another (8.14.3), or tells the first that is refused. After
-/// a refusal the operators are of no use.
+/// Makes names operators of a priority and a kind, one after another (8.14.3), or tells the first that is refused. The names before
+/// that one are operators then, and, where memory gives out, so many of them as were made.
 pub fn declare(
     operators: &mut OpTable,
     priority: u16,
     kind: Kind,
     names: &[Name],
 ) -> Result<Result<(), Refusal>, AllocError>
-    ensures { IfOk result (Declares (declared priority kind names.now operators.old) operators.new) }
+    ensures says { IfOk result (Declares (declared priority kind names.now operators.old) operators.new) }
+    ensures table { OnOk result (operators.new ≡ until_refused priority kind names.now operators.old) }
+    ensures err { OnErr result ((made : ℕ) × (operators.new ≡ until_refused priority kind (take made names.now) operators.old)) }
 {
     for name in names {
         match operators.add(priority, kind, name.as_str()) {

@@ -3,7 +3,7 @@ use Rattle.std.specs.Prelude.{◌≡◌, ℕ, ◌+◌, List, [], ◌∷◌, ◌+
 use Rattle.plterm.specs.Tree.{Tree}
 use Rattle.plsubst.specs.Subst.{bind}
 use Rattle.plsubst.specs.Unify.{unify}
-use Rattle.platoms.specs.Names.{Extends as ExtendsNames}
+use Rattle.platoms.specs.Names.{Table, Extends as ExtendsNames}
 use Rattle.plevent.specs.declared.update.ClauseName.{ClauseName}
 use Rattle.plcells.specs.declared.cell.Cell.{Cell}
 use Rattle.plcells.specs.declared.equation.Equation.{Equation}
@@ -13,7 +13,7 @@ use Rattle.plsearch.specs.Types.{Element, Resolvent, Case, Choice, Handle}
 use Rattle.plsearch.specs.Lists.{bind_goals}
 use Rattle.plcode.specs.Steps.{goals_from}
 use Rattle.plviews.specs.declared.view.View.{View}
-use Rattle.plenv.specs.Env.{Env, IsEnv}
+use Rattle.plenv.specs.Env.{Env, IsEnv, renamed as renamed_env}
 use Rattle.pllinks.specs.declared.link.Link.{Link}
 use Rattle.pllinks.specs.declared.link.Continuation.{Continuation}
 use Rattle.pllinks.specs.Lists.{Goals}
@@ -47,6 +47,10 @@ seeing v s = record s { basis = record { code = s.basis.code; latest = v; starts
 -- the same, where a transaction or a snapshot has begun in a view, and no goals are visited
 abbrev pub beginning : View → State → State
 beginning v s = record s { basis = begun v s.basis; goals = alone 0 }
+
+-- the same, with other names
+abbrev pub renamed : State → Table → State
+renamed s t = record s { env = renamed_env s.env t }
 
 -- the goals from a position of the code on
 abbrev pub goals_in : State → Goals

@@ -6,6 +6,7 @@ ghost use Rattle.plsubst.specs.Subst.{bind};
 ghost use Rattle.plcells.specs.Putting.{standing};
 ghost use Rattle.plcells.specs.Store.{value, AreValues, IsValue};
 ghost use Rattle.plenv.specs.Changes.{Puts, Stays};
+ghost use Rattle.plenv.specs.Env.{renamed};
 ghost use Rattle.plsearch.specs.Lookups.{clause_term};
 
 use plcells::cell::{Argument, Cell};
@@ -68,7 +69,7 @@ impl Copier {
         env.put_nodes(&mut self.stack, term.nodes(), values)
     }
 
-    /// Puts `Head :- Body` of the values of a head and a body: its value.
+    /// Puts `Head :- Body` of the values of a head and a body: its value. After an `Err` there may be more names, and nothing else.
     pub(crate) fn put_clause(
         &self,
         env: &mut Environment,
@@ -79,14 +80,16 @@ impl Copier {
         requires body { IsValue env.old.heap body }
         ensures ok { IfOk result (λ v. Puts env.old env.new v (clause_term (value env.old.heap head) (value env.old.heap body))) }
         ensures err { OnErr result (Stays env.old env.new) }
+        ensures back { OnErr result (env.new ≡ renamed env.old env.new.heap.names) }
     {
         env.put_named(&self.neck, &[head, body])
     }
 
-    /// Puts the atom true: its value.
+    /// Puts the atom true: its value. After an `Err` there may be more names, and nothing else.
     pub(crate) fn put_true(&self, env: &mut Environment) -> Result<Cell, AllocError>
         ensures ok { IfOk result (λ v. Puts env.old env.new v (atom (codes "true"))) }
         ensures err { OnErr result (Stays env.old env.new) }
+        ensures back { OnErr result (env.new ≡ renamed env.old env.new.heap.names) }
     {
         env.put_atom(&self.yes)
     }

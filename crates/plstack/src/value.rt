@@ -1,5 +1,5 @@
 //! Values of a stack: goals, and the terms of clauses.
-ghost use Rattle.std.specs.Prelude.{◌≡◌, ◌<◌, ◌≤◌, length, map, None, IfOk, IfSome, IfNone, OnOk};
+ghost use Rattle.std.specs.Prelude.{◌≡◌, ◌<◌, ◌≤◌, length, map, None, IfOk, IfSome, IfNone, OnOk, OnErr};
 ghost use Rattle.plterm.specs.Tree.{Tree};
 ghost use Rattle.plsubst.specs.Subst.{bind};
 ghost use Rattle.plclause.specs.Conversion.{converted};
@@ -8,7 +8,7 @@ ghost use Rattle.plgoals.specs.Callables.{called, IsCallable, IsNoGoal};
 ghost use Rattle.plgoals.specs.Goals.{IsGoal};
 ghost use Rattle.plgoals.specs.Extended.{Extends as ExtendsTerm};
 ghost use Rattle.plenv.specs.Env.{over};
-ghost use Rattle.plstack.specs.State.{Extends};
+ghost use Rattle.plstack.specs.State.{renamed, Extends};
 ghost use Rattle.plstack.specs.Arguments.{IsArgument, KeepsArguments};
 
 use crate::stack::Stack;
@@ -19,20 +19,23 @@ use pllinks::item::ClauseGoals;
 use std::alloc::{AllocError, Global};
 
 impl Stack {
-    /// The goal that the term of a value stands for, if it is convertible: the goal's value (ISO/IEC 13211-1 7.6.2).
+    /// The goal that the term of a value stands for, if it is convertible: the goal's value (ISO/IEC 13211-1 7.6.2). After an `Err` there may be
+    /// more names, and nothing else.
     pub fn goal_of(&mut self, alloc: Global, v: Cell) -> Result<Option<Cell>, AllocError>
         requires { IsValue self.old.env.heap v }
         ensures some { IfOk result (λ found. IfSome found (λ w. IsGoal self.old.env.heap self.new.env.heap v w)) }
         ensures none { IfOk result (λ found. IfNone found (converted (value self.old.env.heap v) ≡ None)) }
         ensures count { self.new.env.count ≡ self.old.env.count }
         ensures stays { Extends self.old self.new }
+        ensures back { OnErr result (self.new ≡ renamed self.old self.new.env.heap.names) }
     {
         let goal = self.env.goal_of(alloc, v);
         let _ = self.env.heap();
         goal
     }
 
-    /// The term of a value with further arguments behind its own, as call/N makes it (ISO/IEC 13211-1 Cor.2 8.15.4).
+    /// The term of a value with further arguments behind its own, as call/N makes it (ISO/IEC 13211-1 Cor.2 8.15.4). After an `Err` there may be
+    /// more names, and nothing else.
     pub fn with_arguments(
         &mut self,
         alloc: Global,
@@ -46,6 +49,7 @@ impl Stack {
         ensures ok { IfOk result (λ r. ExtendsTerm self.old.env.heap self.new.env.heap v further.now r) }
         ensures count { self.new.env.count ≡ self.old.env.count }
         ensures stays { Extends self.old self.new }
+        ensures back { OnErr result (self.new ≡ renamed self.old self.new.env.heap.names) }
     {
         let made = self.env.with_arguments(alloc, v, further);
         let _ = self.env.heap();

@@ -2,7 +2,7 @@
 #![tactic(auto)]
 
 use plcommand::command::prolog_command;
-use plhist::Status;
+use plhist::{Ending, Status, ending_of};
 use plio::{FileSource, NoGate, StdSink};
 use plwords::words::{Words, paths};
 use std::alloc::Global;
@@ -31,10 +31,11 @@ fn words_of(rt: &HostRuntime, alloc: Global) -> Result<Words, Status> {
 
 /// Tells on standard error what the output does not tell, and ends with the status's number.
 fn ended(rt: &HostRuntime, status: Status) -> ExitCode {
-    if let Some(line) = status.line() {
+    let Ending { line, number } = ending_of(status);
+    if let Some(line) = line {
         let _ = eprintln!(rt; "{line}");
     }
-    ExitCode::from(status.number())
+    ExitCode::from(number)
 }
 
 fn main(rt: HostRuntime) -> ExitCode {

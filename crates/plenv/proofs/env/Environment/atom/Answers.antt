@@ -1,4 +1,6 @@
+use Rattle.std.proofs.Common.{ap}
 use Rattle.std.proofs.lemmas.Result.{IfOk-weaker, on_err_weaker}
+use Rattle.plcells.specs.Store.{Store}
 use Rattle.plterm.specs.Tree.{Tree, atom}
 use Rattle.plcells.specs.declared.cell.Cell.TheVariants.{Atom as AtomCell}
 use Rattle.plcells.specs.Putting.{PutsTerm}
@@ -26,3 +28,8 @@ returns-clause-err c = rw (← c.self.view_is) (
     let s = c.self.inside in
     let e : Env = record { heap = s.heap; slots = s.slots.items; noted = s.noted.items; boundary = s.boundary; count = s.count } in
     on_err_weaker c.atom_on.result (λ same. stays-grown e c.atom_on.new.heap c.atom_on.ensures.preserves.values c.atom_on.ensures.preserves.keeps c.self.invariant) c.atom_on.ensures.err)
+
+pub returns-clause-back : goal.returns-clause-back
+returns-clause-back c = rw (← c.self.view_is) (
+    let s = c.self.inside in
+    on_err_weaker c.atom_on.result (λ same. ap (λ (h : Store). record { heap = h; slots = s.slots.items; noted = s.noted.items; boundary = s.boundary; count = s.count }) same) c.atom_on.ensures.err)

@@ -1,7 +1,7 @@
-use Rattle.std.proofs.Common.{map}
+use Rattle.std.proofs.Common.{ap, map}
 use Rattle.std.proofs.lemmas.Result.{IfOk-weaker, on_err_weaker}
 use Rattle.plterm.specs.Tree.{Tree, compound, trees}
-use Rattle.plcells.specs.Store.{value}
+use Rattle.plcells.specs.Store.{Store, value}
 use Rattle.plcells.specs.Putting.{PutsTerm}
 use Rattle.plenv.specs.Env.{Env}
 use Rattle.plenv.proofs.Putting.{stays-grown}
@@ -27,3 +27,8 @@ returns-clause-err c = rw (← c.self.view_is) (
     let s = c.self.inside in
     let e : Env = record { heap = s.heap; slots = s.slots.items; noted = s.noted.items; boundary = s.boundary; count = s.count } in
     on_err_weaker c.compound_on.result (λ same. stays-grown e c.compound_on.new.heap c.compound_on.ensures.preserves.values c.compound_on.ensures.preserves.keeps c.self.invariant) c.compound_on.ensures.err)
+
+pub returns-clause-back : goal.returns-clause-back
+returns-clause-back c = rw (← c.self.view_is) (
+    let s = c.self.inside in
+    on_err_weaker c.compound_on.result (λ same. ap (λ (h : Store). record { heap = h; slots = s.slots.items; noted = s.noted.items; boundary = s.boundary; count = s.count }) same) c.compound_on.ensures.err)

@@ -1,5 +1,6 @@
-use Rattle.std.proofs.Common.{reverse}
+use Rattle.std.proofs.Common.{ap, reverse}
 use Rattle.std.proofs.lemmas.Result.{IfOk-weaker, on_err_weaker}
+use Rattle.plcells.specs.Store.{Store}
 use Rattle.plterm.specs.Reading.{tree_of}
 use Rattle.plsubst.specs.Subst.{bind}
 use Rattle.plcells.specs.Putting.{standing, PutsTerm}
@@ -27,3 +28,8 @@ returns-clause-err c = rw (← c.self.view_is) (
     let s = c.self.inside in
     let e : Env = record { heap = s.heap; slots = s.slots.items; noted = s.noted.items; boundary = s.boundary; count = s.count } in
     on_err_weaker c.put_nodes.result (λ same. stays-grown e c.put_nodes.new.self c.put_nodes.ensures.preserves.values c.put_nodes.ensures.preserves.keeps c.self.invariant) c.put_nodes.ensures.err)
+
+pub returns-clause-back : goal.returns-clause-back
+returns-clause-back c = rw (← c.self.view_is) (
+    let s = c.self.inside in
+    on_err_weaker c.put_nodes.result (λ same. ap (λ (h : Store). record { heap = h; slots = s.slots.items; noted = s.noted.items; boundary = s.boundary; count = s.count }) same) c.put_nodes.ensures.err)

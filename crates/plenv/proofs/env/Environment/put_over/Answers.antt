@@ -1,4 +1,6 @@
+use Rattle.std.proofs.Common.{ap}
 use Rattle.std.proofs.lemmas.Result.{IfOk-weaker, on_err_weaker}
+use Rattle.plcells.specs.Store.{Store}
 use Rattle.plsubst.specs.Subst.{bind}
 use Rattle.plcells.specs.Putting.{standing, PutsTerm}
 use Rattle.plenv.specs.Env.{Env}
@@ -25,3 +27,8 @@ returns-clause-err c = rw (← c.self.view_is) (
     let s = c.self.inside in
     let e : Env = record { heap = s.heap; slots = s.slots.items; noted = s.noted.items; boundary = s.boundary; count = s.count } in
     on_err_weaker c.put.result (λ same. stays-grown e c.put.new.self c.put.ensures.preserves.values c.put.ensures.preserves.keeps c.self.invariant) c.put.ensures.err)
+
+pub returns-clause-back : goal.returns-clause-back
+returns-clause-back c = rw (← c.self.view_is) (
+    let s = c.self.inside in
+    on_err_weaker c.put.result (λ same. ap (λ (h : Store). record { heap = h; slots = s.slots.items; noted = s.noted.items; boundary = s.boundary; count = s.count }) same) c.put.ensures.err)

@@ -2,7 +2,7 @@ use Rattle.std.proofs.Common.{◌≡◌, ◌≤◌, ◌∙◌, length, ap, ap₂
 use Rattle.plsubst.specs.Subst.{shift}
 use Rattle.plenv.specs.Env.{Env, IsEnv, cut}
 use Rattle.plenv.specs.Changes.{bounded, PutsTerm}
-use Rattle.plenv.proofs.Marking.{mark-cells, mark-slots, term-under, back-stays}
+use Rattle.plenv.proofs.Marking.{mark-cells, mark-slots, term-under, back-renamed, back-stays}
 use Rattle.plenv.proofs.Renaming.{IsMark-kept}
 use Rattle.plenv.proofs.env.Environment.put_term.Goals as goal
 
@@ -50,3 +50,13 @@ returns-in-Err-clause-err c =
     let slots : c.self.inside.boundary ≡ e.boundary = rw (← c.self.view_is) refl in
     let back = c.forget-in-Err.ensures ∙ ap (bounded c.boundary-cells.result c.self.inside.boundary) c.undo.ensures ∙ ap₂ (λ i j. bounded i j (cut c.mark-mark.result new)) cells slots in
     back-stays c.mark-mark.result e c.mark-mark.new.self m.now m.same new c.forget-in-Err.new.self is c.heap.ensures.env.heap.names c.in-Err.ensures.keeps m.mark.within back
+
+pub returns-in-Err-clause-back : goal.returns-in-Err-clause-back
+returns-in-Err-clause-back c =
+    let e : Env = c.args.self.now in
+    let new : Env = c.put_new-put.new.self in
+    let m = c.mark-mark.ensures in
+    let cells : c.boundary-cells.result ≡ e.heap.boundary = rw (← c.self.view_is) c.boundary-cells.ensures.is in
+    let slots : c.self.inside.boundary ≡ e.boundary = rw (← c.self.view_is) refl in
+    let back = c.forget-in-Err.ensures ∙ ap (bounded c.boundary-cells.result c.self.inside.boundary) c.undo.ensures ∙ ap₂ (λ i j. bounded i j (cut c.mark-mark.result new)) cells slots in
+    back-renamed c.mark-mark.result e c.mark-mark.new.self m.now m.same new c.forget-in-Err.new.self c.in-Err.ensures.keeps m.mark.within back

@@ -1,3 +1,6 @@
+use Rattle.std.proofs.Common.{ap}
+use Rattle.std.proofs.lemmas.Result.{on_err_weaker}
+use Rattle.plenv.specs.Env.{Env}
 use Rattle.plstack.proofs.Stacks.{inside}
 use Rattle.plstack.proofs.Growing.{if_ok, puts-stay, stack-env, extends-env}
 use Rattle.plstack.proofs.Arguments.{arguments-stay}
@@ -29,3 +32,6 @@ returns-clause-stays c =
     let s = inside c.self.inside in
     let e = c.put_clause-put.new.env in
     rw (← c.self.view_is) (extends-env s c.self.inside.depth e (puts-stay s.env e _ c.put_clause-put.result c.put_clause-put.ensures.ok c.put_clause-put.ensures.err).extends c.heap.ensures.env c.self.invariant)
+
+pub returns-clause-back : goal.returns-clause-back
+returns-clause-back c = rw (← c.self.view_is) (on_err_weaker c.put_clause-put.result (λ same. ap (λ (e : Env). record (inside c.self.inside) { env = e }) same) c.put_clause-put.ensures.back)
