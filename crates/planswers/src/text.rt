@@ -4,10 +4,12 @@ ghost use Rattle.std.specs.Str.{chars};
 ghost use Rattle.plterm.specs.Tree.{int};
 ghost use Rattle.plcells.specs.Store.{value, IsValue};
 ghost use Rattle.plnames.specs.declared.kind.Spelling.TheVariants.{Codes};
-ghost use Rattle.plbuiltin.specs.Texts.{atom_of, character_of as character_in, text_in as text_in_term};
+ghost use Rattle.plnames.specs.declared.kind.Spelling.{Spelling};
+ghost use Rattle.plbuiltin.specs.Lists.{elements_of};
+ghost use Rattle.plbuiltin.specs.Texts.{atom_of, character_of as character_in, characters_of, text_in as text_in_term};
 
 use crate::error::type_error;
-use crate::list::{Tail, cell_of, tail_of};
+use crate::list::{Tail, cell_of, elements_of, is_partial, tail_of};
 use plcells::cell::Cell;
 use plcells::heap::Heap;
 use plerror::error::{atom, instantiation_error, representation_error};
@@ -17,7 +19,7 @@ use plterm::term::{NAME_LENGTH, Term};
 use std::alloc::{AllocError, Global};
 use std::string::String;
 
-/// The text that the list of a value spells, or the error of what is none. The elements are looked at from the left.
+/// The text that the list of a value spells, or the error of what is none.
 pub fn text_in(
     alloc: Global,
     heap: &Heap,
@@ -33,7 +35,7 @@ pub fn text_in(
     while let Some((first, tail)) = cell_of(heap, &rest) {
         match character_of(alloc, heap, k, first)? {
             Ok(c) => text.push(c)?,
-            Err(error) => return Ok(Err(error)),
+            Err(error) => return Ok(Err(text_error(alloc, heap, v, error)?)),
         }
         rest = tail;
     }
@@ -42,6 +44,21 @@ pub fn text_in(
         Tail::Unbound => Ok(Err(instantiation_error(alloc)?)),
         Tail::Other => Ok(Err(type_error(alloc, heap, "list", v)?)),
     }
+}
+
+/// The error of a value whose elements spell no text, the first of them with an error of its own: it counts where no end and no element is a variable, and the value is a list.
+fn text_error(alloc: Global, heap: &Heap, v: Cell, error: Term) -> Result<Term, AllocError>
+    requires { IsValue heap.now v }
+    ensures { IfOk result (λ t. (k : Spelling) → characters_of k (elements_of (value heap.now v)).items ≡ Err error → text_in_term k (value heap.now v) ≡ Err t) }
+{
+    let list = elements_of(alloc, heap, v)?;
+    if is_partial(heap, &list) {
+        return Ok(instantiation_error(alloc)?);
+    }
+    let Tail::Other = list.tail else {
+        return Ok(error);
+    };
+    Ok(type_error(alloc, heap, "list", v)?)
 }
 
 /// The character that a value stands for as an element of such a list, or its error.

@@ -2,6 +2,7 @@
 use Rattle.std.proofs.Common.{◌≡◌, ℕ, true, false, List, [], ◌∷◌, ◌++◌, map, pos, negsuc, Ok, Err, Some, None, refl}
 use Rattle.std.specs.Prelude.{codes}
 use Rattle.std.specs.Char.{encode_utf8}
+use Rattle.std.specs.Fmt.{digits}
 use Rattle.std.specs.Str.{chars}
 use Rattle.plterm.specs.Tree.{Tree, var, int, atom, compound, none, more}
 use Rattle.plprogram.specs.declared.settings.Settings.{Settings}
@@ -35,7 +36,7 @@ use Rattle.pllex.specs.Tokens.{run_end, gap, value, item_of}
 use Rattle.plnumber.specs.Numbers.{number_of}
 use Rattle.plsort.specs.Sorted.{inserted, in_order, added, set_of}
 use Rattle.plbuiltin.specs.Sorting.{on_sorting}
-use Rattle.plbuiltin.specs.Texts.{text_in, number_text, atom_of}
+use Rattle.plbuiltin.specs.Texts.{text_in, number_text, spelled, atom_of}
 use Rattle.plbuiltin.specs.Pieces.{parts, splits, sub_atom, atom_concat, whole}
 use Rattle.plbuiltin.specs.Current.{current_op, current_flag, operator_terms}
 use Rattle.plbuiltin.specs.Arithmetic.{compares, on_arithmetic}
@@ -302,9 +303,19 @@ module _ (s : Settings) where
   unfolding foo dot empty elements_of
   univ_made = refl
 
-  univ_errors : (univ (var 0) empty s ≡ Raises (domain_error (codes "non_empty_list") empty)) × (univ (var 0) (dot foo (var 1)) s ≡ Raises instantiation_error)
-  unfolding foo dot empty elements_of
-  univ_errors = (refl, refl)
+  -- a variable as the head or the end is met before the list, and the list before its head
+  univ_errors :
+      (univ (var 0) empty s ≡ Raises (domain_error (codes "non_empty_list") empty))
+      × (univ (var 0) (dot foo (var 1)) s ≡ Raises instantiation_error)
+      × (univ (var 0) (dot (var 1) foo) s ≡ Raises instantiation_error)
+      × (univ (var 0) (dot (var 1) (dot foo empty)) s ≡ Raises instantiation_error)
+      × (univ (var 0) (dot f_of_foo (dot foo (var 1))) s ≡ Raises instantiation_error)
+      × (univ (var 0) (dot f_of_foo foo) s ≡ Raises (type_error (codes "list") (dot f_of_foo foo)))
+      × (univ (var 0) foo s ≡ Raises (type_error (codes "list") foo))
+      × (univ (var 0) (dot f_of_foo empty) s ≡ Raises (type_error (codes "atomic") f_of_foo))
+      × (univ (var 0) (dot (int (pos 1)) (dot (var 1) empty)) s ≡ Raises (type_error (codes "callable") (int (pos 1))))
+  unfolding foo f_of_foo dot empty elements_of
+  univ_errors = (refl, refl, refl, refl, refl, refl, refl, refl, refl)
 
 -- ---- texts
 
@@ -320,6 +331,28 @@ module _ (s : Settings) where
   partial_text : spell Characters (var 0) (dot (atom (codes "a")) (var 1)) s ≡ Raises instantiation_error
   unfolding dot elements_of chars
   partial_text = refl
+
+  -- a variable as the end or an element is met before the list, and the list before an element of another kind
+  texts_amiss :
+      (text_in Characters (dot (int (pos 1)) (var 1)) ≡ Err instantiation_error)
+      × (text_in Codes (dot foo (var 1)) ≡ Err instantiation_error)
+      × (text_in Characters (dot (var 1) (int (pos 1))) ≡ Err instantiation_error)
+      × (text_in Characters (dot (int (pos 1)) (dot (var 1) empty)) ≡ Err instantiation_error)
+      × (text_in Codes (dot foo foo) ≡ Err (type_error (codes "list") (dot foo foo)))
+      × (text_in Codes foo ≡ Err (type_error (codes "list") foo))
+      × (text_in Codes (dot foo (dot f_of_foo empty)) ≡ Err (type_error (codes "integer") foo))
+      × (text_in Codes (dot (int (negsuc 0)) (dot foo empty)) ≡ Err (representation_error (codes "character_code")))
+      × (text_in Characters (dot (atom (codes "a")) (dot foo empty)) ≡ Err (type_error (codes "character") foo))
+  unfolding foo f_of_foo dot empty elements_of chars
+  texts_amiss = (refl, refl, refl, refl, refl, refl, refl, refl, refl)
+
+  -- where the integer is known, a list that is no text is unified with its own
+  number_beside :
+      (number_spelled Codes (var 0) (dot foo (var 1)) (text_in Codes (dot foo (var 1))) s ≡ Raises instantiation_error)
+      × (number_spelled Codes (int (pos 7)) (dot foo (var 1)) (text_in Codes (dot foo (var 1))) s ≡ unifies (dot foo (var 1)) (spelled Codes (number_text (pos 7))) s)
+      × (number_spelled Codes foo (var 1) (text_in Codes (var 1)) s ≡ Raises (type_error (codes "number") foo))
+  unfolding foo dot empty elements_of chars digits
+  number_beside = (refl, refl, refl)
 
   codes_of : (char_code (var 0) (int (pos 97)) s ≡ unifies (var 0) (atom (codes "a")) s) × (char_code (atom (codes "a")) (var 0) s ≡ unifies (var 0) (int (pos 97)) s)
   unfolding chars encode_utf8
@@ -403,14 +436,20 @@ module _ (s : Settings) where
   unfolding foo elements_of
   one_argument = refl
 
+  -- what is no directive is met first, wherever it stands, then the number of the arguments, and then their types from the left
   formats_amiss :
       (format (atom (codes "~a") ∷ []) s ≡ Raises (domain_error (codes "format_arguments") (atom (codes "[]"))))
       × (format (atom (codes "~a") ∷ dot foo (dot foo empty) ∷ []) s ≡ Raises (domain_error (codes "format_arguments") (dot foo (dot foo empty))))
       × (format (atom (codes "~z") ∷ empty ∷ []) s ≡ Raises (domain_error (codes "format_control") (atom (codes "~z"))))
+      × (format (atom (codes "~a~z") ∷ dot (int (pos 1)) empty ∷ []) s ≡ Raises (domain_error (codes "format_control") (atom (codes "~a~z"))))
+      × (format (atom (codes "~a~") ∷ empty ∷ []) s ≡ Raises (domain_error (codes "format_control") (atom (codes "~a~"))))
+      × (format (atom (codes "~a ~w") ∷ dot (int (pos 1)) empty ∷ []) s ≡ Raises (domain_error (codes "format_arguments") (dot (int (pos 1)) empty)))
+      × (format (atom (codes "~a") ∷ dot (int (pos 1)) (dot foo empty) ∷ []) s ≡ Raises (domain_error (codes "format_arguments") (dot (int (pos 1)) (dot foo empty))))
+      × (format (atom (codes "~d~a") ∷ dot foo (dot (int (pos 1)) empty) ∷ []) s ≡ Raises (type_error (codes "integer") foo))
       × (format (atom (codes "~d") ∷ foo ∷ []) s ≡ Raises (type_error (codes "integer") foo))
       × (format (var 0 ∷ []) s ≡ Raises instantiation_error)
   unfolding foo dot empty elements_of
-  formats_amiss = (refl, refl, refl, refl, refl)
+  formats_amiss = (refl, refl, refl, refl, refl, refl, refl, refl, refl, refl)
 
 -- ---- parts of texts
 

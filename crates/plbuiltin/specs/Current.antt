@@ -1,7 +1,7 @@
 -- The operators and the flags as they stand (ISO/IEC 13211-1 8.14.4, 8.17.2).
-use Rattle.std.specs.Prelude.{ℕ, ℤ, pos, negsuc, nat_le, Bool, ◌||◌, List, [], ◌∷◌, map, codes, Option, Some, None, if◌then◌else◌}
+use Rattle.std.specs.Prelude.{ℕ, pos, negsuc, nat_le, Bool, ◌||◌, List, [], ◌∷◌, map, codes, Option, Some, None, if◌then◌else◌}
 use Rattle.std.specs.Str.{bytes_eq}
-use Rattle.plterm.specs.Tree.{Tree, var, int, atom, compound}
+use Rattle.plterm.specs.Tree.{Tree, var, int, atom}
 use Rattle.plops.specs.Listing.{current_ops}
 use Rattle.plops.specs.declared.flag.Quotes.{Quotes}
 use Rattle.plops.specs.declared.flag.Quotes.TheVariants.{Codes, Chars, Atom}

@@ -1,5 +1,5 @@
 -- Errors of arguments, and which of several counts.
-use Rattle.std.specs.Prelude.{ℕ, List, [], ◌∷◌, codes, Option, Some, None}
+use Rattle.std.specs.Prelude.{List, [], ◌∷◌, codes, Option, Some, None}
 use Rattle.plterm.specs.Tree.{Tree, var, int, atom, compound}
 use Rattle.plerror.specs.Errors.{type_error}
 

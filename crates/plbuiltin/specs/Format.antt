@@ -1,5 +1,6 @@
 -- Formatted output: format/1 and format/2.
-use Rattle.std.specs.Prelude.{ℕ, ◌==◌, ◌||◌, Bool, true, false, List, [], ◌∷◌, ◌++◌, codes, Ok, Err, if◌then◌else◌}
+use Rattle.std.specs.Prelude.{ℕ, ◌==◌, ◌||◌, Bool, true, false, List, [], ◌∷◌, ◌++◌, length, count_by, codes, Option, Some, None, Ok, Err, if◌then◌else◌}
+use Rattle.std.specs.List.{list_any}
 use Rattle.std.specs.Str.{bytes_eq}
 use Rattle.plterm.specs.Tree.{Tree, int, atom}
 use Rattle.plwrite.specs.Writing.{written}
@@ -75,14 +76,29 @@ joined (Err e) rest = Err e
 joined (Ok text) (Err e) = Err e
 joined (Ok text) (Ok rest) = Ok (text ++ rest)
 
--- what the pieces of a format f make of the terms that the arguments a are, from the left
-abbrev pub formatted : Settings → Tree → Tree → List Piece → List Tree → Found (List ℕ)
-formatted s f a [] [] = Ok []
-formatted s f a [] (t ∷ ts) = Err (domain_error (codes "format_arguments") a)
-formatted s f a (Byte c ∷ ps) ts = joined (Ok (c ∷ [])) (formatted s f a ps ts)
-formatted s f a (Amiss ∷ ps) ts = Err (domain_error (codes "format_control") f)
-formatted s f a (Takes d ∷ ps) [] = Err (domain_error (codes "format_arguments") a)
-formatted s f a (Takes d ∷ ps) (t ∷ ts) = joined (argument_text d t s) (formatted s f a ps ts)
+abbrev pub is_amiss : Piece → Bool
+is_amiss Amiss = true
+is_amiss p = false
+
+abbrev pub takes_one : Piece → Bool
+takes_one (Takes d) = true
+takes_one p = false
+
+-- what is no directive is looked for first, wherever it stands in a format f, and then the number of the terms that the arguments a are
+abbrev pub format_fault : Tree → Tree → List Piece → List Tree → Option Tree
+format_fault f a ps ts =
+    if list_any is_amiss ps then Some (domain_error (codes "format_control") f)
+    else (if count_by takes_one ps == length ts then None else Some (domain_error (codes "format_arguments") a))
+
+-- what the pieces of a format without such a fault make of its arguments, from the left
+abbrev pub formatted : Settings → List Piece → List Tree → Found (List ℕ)
+formatted s (Byte c ∷ ps) ts = joined (Ok (c ∷ [])) (formatted s ps ts)
+formatted s (Takes d ∷ ps) (t ∷ ts) = joined (argument_text d t s) (formatted s ps ts)
+formatted s ps ts = Ok []
+
+abbrev pub faultless : Option Tree → Found (List ℕ) → Found (List ℕ)
+faultless (Some e) text = Err e
+faultless None text = text
 
 -- the pieces of a format's text
 abbrev pub pieces_of : Found (List ℕ) → Found (List Piece)
@@ -90,7 +106,7 @@ pieces_of (Ok text) = Ok (pieces false text)
 pieces_of (Err e) = Err e
 
 abbrev pub formatted_by : Found (List Piece) → Tree → Tree → Settings → Found (List ℕ)
-formatted_by (Ok ps) f a settings = formatted settings f a ps (arguments_of a)
+formatted_by (Ok ps) f a settings = let ts = arguments_of a in faultless (format_fault f a ps ts) (formatted settings ps ts)
 formatted_by (Err e) f a settings = Err e
 
 -- nothing is written where it raises

@@ -7,7 +7,7 @@ use Rattle.plnames.specs.declared.kind.Parts.{Parts}
 use Rattle.plnames.specs.declared.kind.Parts.TheVariants.{Argument, Functor, Univ, Copy, Variables}
 use Rattle.plprogram.specs.declared.settings.Settings.{Settings}
 use Rattle.plerror.specs.Errors.{instantiation_error, type_error, domain_error, representation_error}
-use Rattle.plbuiltin.specs.Lists.{Checked, Whole, Amiss, checked}
+use Rattle.plbuiltin.specs.Lists.{Tail, Empty, Unbound, Other, elements_of}
 use Rattle.plbuiltin.specs.Solution.{Solved, Raises, Gives, fails, unifies}
 
 -- a term is the argument with a number, of which the first one has 1
@@ -60,22 +60,20 @@ functor t name a settings n = unifies (both name a) (both t (int (pos 0))) setti
 abbrev pub with_name : Tree → List ℕ → List Tree → Settings → Solved
 with_name t f ts settings = if nat_le (length ts) 1024 then unifies t (compound f (trees ts)) settings else Raises (representation_error (codes "max_arity"))
 
--- the term whose name and arguments are the elements of a list
-abbrev pub from_elements : Tree → List Tree → Tree → Settings → Solved
-from_elements t [] l settings = Raises (domain_error (codes "non_empty_list") l)
-from_elements t (var x ∷ ts) l settings = Raises instantiation_error
-from_elements t (compound f us ∷ ts) l settings = Raises (type_error (codes "atomic") (compound f us))
-from_elements t (name ∷ []) l settings = unifies t name settings
-from_elements t (atom f ∷ u ∷ us) l settings = with_name t f (u ∷ us) settings
-from_elements t (name ∷ u ∷ us) l settings = Raises (type_error (codes "callable") name)
-
-abbrev pub from_list : Tree → Checked → Tree → Settings → Solved
-from_list t (Whole ts) l settings = from_elements t ts l settings
-from_list t (Amiss e) l settings = Raises e
+-- the term whose name and arguments are the elements of a list; a variable as its head or its end is looked for first, then whether it is a list
+abbrev pub from_list : Tree → List Tree → Tail → Tree → Settings → Solved
+from_list t (var x ∷ ts) tail l settings = Raises instantiation_error
+from_list t ts Unbound l settings = Raises instantiation_error
+from_list t ts Other l settings = Raises (type_error (codes "list") l)
+from_list t [] Empty l settings = Raises (domain_error (codes "non_empty_list") l)
+from_list t (compound f us ∷ ts) Empty l settings = Raises (type_error (codes "atomic") (compound f us))
+from_list t (name ∷ []) Empty l settings = unifies t name settings
+from_list t (atom f ∷ u ∷ us) Empty l settings = with_name t f (u ∷ us) settings
+from_list t (name ∷ u ∷ us) Empty l settings = Raises (type_error (codes "callable") name)
 
 -- (8.5.3)
 abbrev pub univ : Tree → Tree → Settings → Solved
-univ (var x) l settings = from_list (var x) (checked l) l settings
+univ (var x) l settings = let es = elements_of l in from_list (var x) es.items es.tail l settings
 univ (compound f ts) l settings = unifies l (listed (atom f ∷ list_of ts)) settings
 univ t l settings = unifies l (listed (t ∷ [])) settings
 

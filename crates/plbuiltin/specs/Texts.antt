@@ -8,7 +8,7 @@ use Rattle.plread.specs.Texts.{listed, code_tree, char_tree}
 use Rattle.plnames.specs.declared.kind.Spelling.{Spelling}
 use Rattle.plnames.specs.declared.kind.Spelling.TheVariants.{Characters, Codes}
 use Rattle.plerror.specs.Errors.{instantiation_error, type_error, representation_error}
-use Rattle.plbuiltin.specs.Lists.{Tail, Empty, Unbound, Other, elements_of}
+use Rattle.plbuiltin.specs.Lists.{Checked, Whole, Amiss, checked, elements_of, is_partial}
 
 -- what is found, or the error
 abbrev pub Found : Type 0 → Type 0
@@ -45,20 +45,22 @@ behind (Err e) cs = Err e
 behind (Ok c) (Err e) = Err e
 behind (Ok c) (Ok cs) = Ok (c ∷ cs)
 
--- the elements are looked at from the left, and then what stands behind them
-abbrev pub characters_of : Spelling → List Tree → Tail → Tree → Found (List ℕ)
-characters_of k [] Empty l = Ok []
-characters_of k [] Unbound l = Err instantiation_error
-characters_of k [] Other l = Err (type_error (codes "list") l)
-characters_of k (t ∷ ts) tail l = behind (character_of k t) (characters_of k ts tail l)
+-- of the elements the first one from the left that stands for none counts
+abbrev pub characters_of : Spelling → List Tree → Found (List ℕ)
+characters_of k [] = Ok []
+characters_of k (t ∷ ts) = behind (character_of k t) (characters_of k ts)
 
 abbrev pub as_text : Found (List ℕ) → Found (List ℕ)
 as_text (Ok cs) = Ok (encode_utf8_all cs)
 as_text (Err e) = Err e
 
--- the text that a list spells
+abbrev pub text_of : Spelling → Checked → Found (List ℕ)
+text_of k (Whole ts) = as_text (characters_of k ts)
+text_of k (Amiss e) = Err e
+
+-- the text that a list spells; a variable as its end or as an element is looked for first, then whether it is a list
 abbrev pub text_in : Spelling → Tree → Found (List ℕ)
-text_in k l = let es = elements_of l in as_text (characters_of k es.items es.tail l)
+text_in k l = if is_partial (elements_of l) then Err instantiation_error else text_of k (checked l)
 
 -- the atom of a text
 abbrev pub atom_of : List ℕ → Found Tree

@@ -1,6 +1,8 @@
 -- The parts of terms, by what a value is.
-use Rattle.std.proofs.Common.{◌≡◌, ◌<◌, pos, ℕ, zero, suc, List, [], ◌∷◌, length, refl, sym, ap, ◌∙◌, arith}
-use Rattle.plterm.specs.Tree.{Tree, int, atom, compound, trees}
+use Rattle.std.proofs.Common.{◌≡◌, ◌<◌, true, false, pos, ℕ, zero, suc, List, [], ◌∷◌, length, take, refl, sym, ap, ◌∙◌, arith}
+use Rattle.std.specs.Prelude.{codes}
+use Rattle.std.specs.List.{list_any}
+use Rattle.plterm.specs.Tree.{Tree, var, int, atom, compound, trees}
 use Rattle.plterm.proofs.Forests.{list_of-trees}
 use Rattle.plcells.specs.Store.{Store, term, terms, spread, IsBlock}
 use Rattle.platoms.specs.Names.{functor_name}
@@ -10,8 +12,10 @@ use Rattle.plorder.specs.declared.shape.Block.{Block}
 use Rattle.plorder.specs.declared.shape.Shape.{Shape}
 use Rattle.plorder.specs.declared.shape.Shape.TheVariants.{Variable, Integer, Atom, Compound}
 use Rattle.plprogram.specs.declared.settings.Settings.{Settings}
-use Rattle.plbuiltin.specs.Solution.{Gives, unifies}
-use Rattle.plbuiltin.specs.Parts.{both, functor, made, univ, variables_from}
+use Rattle.plerror.specs.Errors.{instantiation_error, type_error}
+use Rattle.plbuiltin.specs.Lists.{Unbound, Other, is_variable}
+use Rattle.plbuiltin.specs.Solution.{Raises, Gives, unifies}
+use Rattle.plbuiltin.specs.Parts.{both, from_list, functor, made, univ, variables_from}
 
 -- a value that is no compound and no variable
 module _ (h : Store) (t name a : Tree) (s : Settings) (n : ℕ) where
@@ -47,3 +51,26 @@ module _ (h : Store) (p f k : ℕ) (block : IsBlock h p f k) (t : Tree) (same : 
 pub made-some : (t : Tree) (f : List ℕ) (k : ℕ) (s : Settings) (n : ℕ) → 0 < k → made t (atom f) k s n ≡ Gives (record { left = t; right = compound f (trees (variables_from n k)); new = k } ∷ []) [] s
 made-some t f zero s n some = absurd (omega arith)
 made-some t f (suc k) s n some = refl
+
+-- a list that ends in a variable, or in no list, with a variable as its head or not
+module _ (t l : Tree) (s : Settings) where
+  pub from-unbound : (ts : List Tree) → from_list t ts Unbound l s ≡ Raises instantiation_error
+  from-unbound [] = refl
+  from-unbound (var x ∷ ts) = refl
+  from-unbound (int i ∷ ts) = refl
+  from-unbound (atom f ∷ ts) = refl
+  from-unbound (compound f us ∷ ts) = refl
+
+  pub from-headless : (ts : List Tree) → list_any is_variable (take 1 ts) ≡ true → from_list t ts Other l s ≡ Raises instantiation_error
+  from-headless [] e = cc
+  from-headless (var x ∷ ts) e = refl
+  from-headless (int i ∷ ts) e = cc
+  from-headless (atom f ∷ ts) e = cc
+  from-headless (compound f us ∷ ts) e = cc
+
+  pub from-other : (ts : List Tree) → list_any is_variable (take 1 ts) ≡ false → from_list t ts Other l s ≡ Raises (type_error (codes "list") l)
+  from-other [] e = refl
+  from-other (var x ∷ ts) e = cc
+  from-other (int i ∷ ts) e = refl
+  from-other (atom f ∷ ts) e = refl
+  from-other (compound f us ∷ ts) e = refl

@@ -1,18 +1,21 @@
 //! Built-in predicates on the parts of a term (ISO/IEC 13211-1 8.5).
-ghost use Rattle.std.specs.Prelude.{◌≡◌, ℕ, suc, pos, ◌<◌, ◌≤◌, ◌∷◌, length, codes, IfOk, map};
+ghost use Rattle.std.specs.Prelude.{◌≡◌, ℕ, suc, pos, ◌<◌, ◌≤◌, ◌∷◌, length, take, codes, IfOk, map};
+ghost use Rattle.std.specs.List.{list_any};
 ghost use Rattle.platoms.specs.Names.{IsTable, atom_at, functor_name};
-ghost use Rattle.plterm.specs.Tree.{int, atom};
+ghost use Rattle.plterm.specs.Tree.{Tree, int, atom};
 ghost use Rattle.plcells.specs.Store.{term, terms, value, IsBlock, IsValue, AreValues};
 ghost use Rattle.plprogram.specs.declared.settings.Settings.{Settings};
 ghost use Rattle.plerror.specs.Errors.{representation_error};
-ghost use Rattle.plbuiltin.specs.Parts.{on_parts, arg as arg_of, functor as functor_of, make as make_of, made as made_of, univ as univ_of, from_elements as from_elements_of, with_name as named_of, copy as copy_of, term_variables as term_variables_of};
+ghost use Rattle.plbuiltin.specs.Parts.{on_parts, arg as arg_of, functor as functor_of, make as make_of, made as made_of, univ as univ_of, from_list as from_list_of, with_name as named_of, copy as copy_of, term_variables as term_variables_of};
+ghost use Rattle.plbuiltin.specs.Lists.{Empty, Other, elements_of as elements_in_term, is_variable as is_variable_of};
 ghost use Rattle.planswers.specs.Answers.{IsThere, meant};
+ghost use Rattle.planswers.specs.Lists.{tail_as};
 
 use planswers::answer::Answer;
 use planswers::build::compound_of_variables;
 use planswers::equation::{are_values, is_list_of, solves};
 use planswers::error::{outside, unbound, wrong_type};
-use planswers::list::{Checked, whole_list};
+use planswers::list::{Elements, Tail, elements_of, is_variable};
 use plcells::cell::Cell;
 use plcells::heap::Heap;
 use plerror::error;
@@ -175,10 +178,7 @@ fn univ(alloc: Global, heap: &Heap, term: Cell, list: Cell) -> Result<Answer, Al
     ensures there { IfOk result (IsThere heap.now) }
 {
     match shape_of(heap, &term) {
-        Shape::Variable(_) => match whole_list(alloc, heap, &list)? {
-            Checked::Amiss(error) => Ok(Answer::Raises(error)),
-            Checked::Whole(items) => from_elements(alloc, heap, term, &items, list),
-        },
+        Shape::Variable(_) => from_list(alloc, heap, term, list),
         Shape::Compound(block) => {
             let items = elements(alloc, heap, &block)?;
             is_list_of(alloc, list, &items)
@@ -203,7 +203,55 @@ fn elements(alloc: Global, heap: &Heap, block: &Block) -> Result<Vec<Cell>, Allo
     Ok(items)
 }
 
-/// The term whose name and arguments are the elements of a list.
+/// The term whose name and arguments are the elements of a list: a variable as its head or its end is looked for first.
+fn from_list(alloc: Global, heap: &Heap, term: Cell, list: Cell) -> Result<Answer, AllocError>
+    requires term { IsValue heap.now term }
+    requires list { IsValue heap.now list }
+    ensures is { IfOk result (λ answer. (s : Settings) (n : ℕ) → let es = elements_in_term (value heap.now list) in meant heap.now s n answer ≡ from_list_of (value heap.now term) es.items es.tail (value heap.now list) s) }
+    ensures there { IfOk result (IsThere heap.now) }
+{
+    let elements = elements_at(alloc, heap, &list)?;
+    match elements.tail {
+        Tail::Unbound => unbound(alloc),
+        Tail::Other => no_list(alloc, heap, &elements.items, list),
+        Tail::Empty => from_elements(alloc, heap, term, &elements.items, list),
+    }
+}
+
+/// The elements of the term of a value, and what stands behind them.
+fn elements_at(alloc: Global, heap: &Heap, list: &Cell) -> Result<Elements, AllocError>
+    requires { IsValue heap.now list.now }
+    ensures is { IfOk result (λ es. elements_in_term (value heap.now list.now) ≡ record { items = map (value heap.now) es.items.items; tail = tail_as es.tail }) }
+    ensures there { IfOk result (λ es. AreValues heap.now es.items.items) }
+{
+    elements_of(alloc, heap, *list)
+}
+
+/// The error of a value that is no list, and ends in no variable, where the name and the arguments of a term are asked of it.
+fn no_list(alloc: Global, heap: &Heap, items: &[Cell], list: Cell) -> Result<Answer, AllocError>
+    requires items { AreValues heap.now items.now }
+    requires list { IsValue heap.now list }
+    ensures is { IfOk result (λ answer. (t : Tree) (s : Settings) (n : ℕ) → meant heap.now s n answer ≡ from_list_of t (map (value heap.now) items.now) Other (value heap.now list) s) }
+    ensures there { IfOk result (IsThere heap.now) }
+{
+    if begins_unbound(heap, items) {
+        return unbound(alloc);
+    }
+    wrong_type(alloc, heap, "list", list)
+}
+
+/// Whether the first one of some values is an unbound variable.
+fn begins_unbound(heap: &Heap, items: &[Cell]) -> bool
+    requires { AreValues heap.now items.now }
+    ensures { result ≡ list_any is_variable_of (take 1 (map (value heap.now) items.now)) }
+{
+    match items.first() {
+        Some(head) => is_variable(heap, head),
+        None => false,
+    }
+}
+
+/// The term whose name and arguments are the elements of a list, which are given.
 fn from_elements(
     alloc: Global,
     heap: &Heap,
@@ -214,7 +262,7 @@ fn from_elements(
     requires term { IsValue heap.now term }
     requires items { AreValues heap.now items.now }
     requires list { IsValue heap.now list }
-    ensures is { IfOk result (λ answer. (s : Settings) (n : ℕ) → meant heap.now s n answer ≡ from_elements_of (value heap.now term) (map (value heap.now) items.now) (value heap.now list) s) }
+    ensures is { IfOk result (λ answer. (s : Settings) (n : ℕ) → meant heap.now s n answer ≡ from_list_of (value heap.now term) (map (value heap.now) items.now) Empty (value heap.now list) s) }
     ensures there { IfOk result (IsThere heap.now) }
 {
     let Some((head, arguments)) = items.split_first() else {

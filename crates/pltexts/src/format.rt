@@ -1,7 +1,8 @@
 //! Formatted output: format/1 and format/2.
-ghost use Rattle.std.specs.Prelude.{◌≡◌, ℕ, false, codes, map, IfOk};
+ghost use Rattle.std.specs.Prelude.{◌≡◌, ℕ, false, codes, map, count_by, IfOk};
+ghost use Rattle.std.specs.List.{list_any};
 ghost use Rattle.plcells.specs.Store.{value, IsValue, AreValues};
-ghost use Rattle.plbuiltin.specs.Format.{format_to, control_text, directive as directive_of, pieces as pieces_in, pieces_of as pieces_of_text, listed_text, arguments_of, argument_text as argument_text_of, formatted as formatted_of};
+ghost use Rattle.plbuiltin.specs.Format.{format_to, control_text, directive as directive_of, pieces as pieces_in, pieces_of as pieces_of_text, listed_text, arguments_of, argument_text as argument_text_of, format_fault, formatted as formatted_of, is_amiss, takes_one};
 ghost use Rattle.plerror.specs.Errors.{domain_error as domain_error_of};
 ghost use Rattle.plbuiltin.specs.Texts.{text_in as text_in_term};
 ghost use Rattle.plnames.specs.declared.kind.Spelling.TheVariants.{Characters, Codes};
@@ -79,6 +80,9 @@ pub(crate) fn format(
         arguments,
         values,
     };
+    if let Some(error) = call_error(alloc, heap, &call)? {
+        return Ok(Answer::Raises(error));
+    }
     match formatted(alloc, heap, settings, &call)? {
         Ok(text) => Ok(Answer::Writes(text)),
         Err(error) => Ok(Answer::Raises(error)),
@@ -178,30 +182,66 @@ fn values_of(alloc: Global, heap: &Heap, arguments: &Option<Cell>) -> Result<Vec
     }
 }
 
-/// What the pieces of a format make of its arguments, from the left, or the first error.
+/// The error of a format with what is no directive, or of another number of arguments than its directives take.
+fn call_error(alloc: Global, heap: &Heap, call: &Call) -> Result<Option<Term>, AllocError>
+    requires control { IsValue heap.now call.now.control }
+    requires arguments { IsGiven heap.now call.now.arguments }
+    ensures { IfOk result (λ error. error ≡ format_fault (value heap.now call.now.control) (given heap.now call.now.arguments) (map piece_as call.now.pieces.items) (map (value heap.now) call.now.values.items)) }
+{
+    if any_amiss(&call.pieces) {
+        let culprit = heap.take(alloc, call.control)?;
+        return Ok(Some(domain_error(alloc, "format_control", culprit)?));
+    }
+    if directives(&call.pieces) != call.values.len() {
+        return Ok(Some(wrong_count(alloc, heap, call.arguments)?));
+    }
+    Ok(None)
+}
+
+/// Whether some of a format is no directive.
+fn any_amiss(pieces: &[Piece]) -> bool
+    ensures { result ≡ list_any is_amiss (map piece_as pieces.now) }
+{
+    for piece in pieces {
+        if let Piece::Amiss = *piece {
+            return true;
+        }
+    }
+    false
+}
+
+/// How many directives take an argument.
+fn directives(pieces: &[Piece]) -> usize
+    ensures { result ≡ count_by takes_one (map piece_as pieces.now) }
+{
+    let mut count = 0;
+    for piece in pieces {
+        if let Piece::Takes(_) = *piece {
+            count += 1;
+        }
+    }
+    count
+}
+
+/// What the pieces of a format make of its arguments, from the left, or the first error. It ends at what is no directive and at a directive without an argument, of which there is none here.
 fn formatted(
     alloc: Global,
     heap: &Heap,
     settings: &Settings,
     call: &Call,
 ) -> Result<Result<Vec<u8>, Term>, AllocError>
-    requires control { IsValue heap.now call.now.control }
-    requires arguments { IsGiven heap.now call.now.arguments }
-    requires values { AreValues heap.now call.now.values.items }
-    ensures { IfOk result (λ r. text_as r ≡ formatted_of settings.now (value heap.now call.now.control) (given heap.now call.now.arguments) (map piece_as call.now.pieces.items) (map (value heap.now) call.now.values.items)) }
+    requires { AreValues heap.now call.now.values.items }
+    ensures { IfOk result (λ r. text_as r ≡ formatted_of settings.now (map piece_as call.now.pieces.items) (map (value heap.now) call.now.values.items)) }
 {
     let mut text = Vec::new(alloc);
     let mut left = call.values.as_slice();
     for piece in &call.pieces {
         match *piece {
             Piece::Byte(c) => text.push(c)?,
-            Piece::Amiss => {
-                let culprit = heap.take(alloc, call.control)?;
-                return Ok(Err(domain_error(alloc, "format_control", culprit)?));
-            }
+            Piece::Amiss => return Ok(Ok(text)),
             Piece::Takes(directive) => {
                 let Some((first, rest)) = left.split_first() else {
-                    return Ok(Err(wrong_count(alloc, heap, call.arguments)?));
+                    return Ok(Ok(text));
                 };
                 match argument_text(alloc, heap, settings, directive, *first)? {
                     Ok(more) => text.extend_from_slice(&more)?,
@@ -211,11 +251,7 @@ fn formatted(
             }
         }
     }
-    if left.is_empty() {
-        Ok(Ok(text))
-    } else {
-        Ok(Err(wrong_count(alloc, heap, call.arguments)?))
-    }
+    Ok(Ok(text))
 }
 
 /// The error of too few or too many arguments.

@@ -4,6 +4,7 @@ ghost use Rattle.plcells.specs.Store.{Store, value, IsValue, AreValues};
 ghost use Rattle.plarith.specs.Evaluation.{eval as eval_of};
 ghost use Rattle.plprogram.specs.declared.settings.Settings.{Settings};
 ghost use Rattle.plnames.specs.declared.kind.Spelling.TheVariants.{Characters};
+ghost use Rattle.plbuiltin.specs.Format.{format as formats};
 ghost use Rattle.plbuiltin.specs.Output.{on_output, term_output, line_output, character_output, spaces as spaces_of};
 ghost use Rattle.plbuiltin.specs.Solution.{writes};
 ghost use Rattle.plbuiltin.specs.Texts.{character_of as character_in};
@@ -42,10 +43,25 @@ pub fn output_answer(
         (Output::Flush, []) => Ok(Answer::Succeeds),
         (Output::PutCharacter, [c]) => put_character(alloc, heap, *c),
         (Output::Tab, [e]) => tab(alloc, heap, *e),
-        (Output::Format, [control]) => format(alloc, heap, settings, *control, None),
-        (Output::Format, [control, values]) => {
-            format(alloc, heap, settings, *control, Some(*values))
-        }
+        (Output::Format, _) => format_of(alloc, heap, settings, args),
+        _ => Ok(Answer::Fails),
+    }
+}
+
+/// format/1 and format/2.
+fn format_of(
+    alloc: Global,
+    heap: &Heap,
+    settings: &Settings,
+    args: &[Cell],
+) -> Result<Answer, AllocError>
+    requires args { AreValues heap.now args.now }
+    ensures is { IfOk result (λ answer. (n : ℕ) → meant heap.now settings.now n answer ≡ formats (map (value heap.now) args.now) settings.now) }
+    ensures there { IfOk result (IsThere heap.now) }
+{
+    match args {
+        [control] => format(alloc, heap, settings, *control, None),
+        [control, values] => format(alloc, heap, settings, *control, Some(*values)),
         _ => Ok(Answer::Fails),
     }
 }

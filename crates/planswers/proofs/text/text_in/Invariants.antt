@@ -3,7 +3,7 @@ use Rattle.std.specs.Str.{encode_utf8_all}
 use Rattle.plcells.specs.Store.{IsValue, value}
 use Rattle.plcells.specs.Walking.{weight}
 use Rattle.plbuiltin.specs.Lists.{elements_of}
-use Rattle.planswers.proofs.Spelled.{found, behind_all}
+use Rattle.planswers.proofs.Spelled.{IsRead}
 use Rattle.planswers.proofs.text.text_in.Given as goal
 
 abbrev pub invariant-loop-first : goal.invariant-loop-first
@@ -11,7 +11,7 @@ invariant-loop-first l = record {
   fits : IsValue l.heap l.rest;
   read : List ℕ;
   text : string_bytes l.text ≡ encode_utf8_all read;
-  so_far : found l.fn.k (elements_of (value l.heap l.fn.v)) (value l.heap l.fn.v) ≡ behind_all read (found l.fn.k (elements_of (value l.heap l.rest)) (value l.heap l.fn.v));
+  so_far : IsRead l.fn.k (elements_of (value l.heap l.fn.v)) (elements_of (value l.heap l.rest)) read;
 }
 
 abbrev pub decreases-loop-first : goal.decreases-loop-first

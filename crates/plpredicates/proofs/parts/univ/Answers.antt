@@ -15,14 +15,14 @@ returns-in_ok-items-in-Compound-clause-is c =
     let l = value h c.args.list in
     let b = c.in-Compound.block in
     let is = c.in-Compound.ensures in
-    let items : map (value h) c.deref-in-Compound.result.now ≡ atom (functor_name h.names b.functor) ∷ terms h (suc b.place) b.arity = ap (map (value h)) c.deref-in-Compound.ensures.value ∙ c.in_ok-items-in-Compound.ensures.are in
-    forwarded c.is_list_of.result h (λ s n. unifies l (listed (map (value h) c.deref-in-Compound.result.now)) s) (λ s n. univ (value h c.args.term) l s) (c.is_list_of.ensures.is h)
+    let items : map (value h) c.deref.result.now ≡ atom (functor_name h.names b.functor) ∷ terms h (suc b.place) b.arity = ap (map (value h)) c.deref.ensures.value ∙ c.in_ok-items-in-Compound.ensures.are in
+    forwarded c.is_list_of.result h (λ s n. unifies l (listed (map (value h) c.deref.result.now)) s) (λ s n. univ (value h c.args.term) l s) (c.is_list_of.ensures.is h)
     (λ s n. ap (λ ts. unifies l (listed ts) s) items ∙ sym (univ-compound h b.place b.functor b.arity is.1 (value h c.args.term) is.2 s l))
 
 pub returns-in_ok-items-in-Compound-clause-there : goal.returns-in_ok-items-in-Compound-clause-there
 returns-in_ok-items-in-Compound-clause-there c =
     let h = c.args.heap.now in
-    c.is_list_of.ensures.there h c.requires.list (subst (AreValues h) (sym c.deref-in-Compound.ensures.value) c.in_ok-items-in-Compound.ensures.there)
+    c.is_list_of.ensures.there h c.requires.list (subst (AreValues h) (sym c.deref.ensures.value) c.in_ok-items-in-Compound.ensures.there)
 
 pub returns-in_default-clause-is : goal.returns-in_default-clause-is
 returns-in_default-clause-is c =

@@ -1,7 +1,7 @@
-use Rattle.std.proofs.Common.{◌≡◌, ◌∷◌, ◌++◌, ◌+◌, ◌<◌, [], Ok, Err, List, length, map, drop, get_or, sym, ap, ap₂, ◌∙◌, rules, subst}
+use Rattle.std.proofs.Common.{◌≡◌, ◌∷◌, ◌++◌, ◌+◌, ◌<◌, [], Ok, List, length, map, drop, get_or, sym, ap, ap₂, ◌∙◌, rules, subst}
 use Rattle.plcells.specs.Store.{AreValues, value}
 use Rattle.plbuiltin.specs.Format.{argument_text, formatted, joined}
-use Rattle.pltexts.specs.Format.{directive_as, given, piece_as}
+use Rattle.pltexts.specs.Format.{directive_as, piece_as}
 use Rattle.pltexts.specs.declared.format.Piece.{Piece as Part}
 use Rattle.pltexts.specs.declared.format.Piece.TheVariants as parts
 use Rattle.pltexts.proofs.Formatted.{one_argument, one_byte}
@@ -13,10 +13,8 @@ pub loop-piece-preserved : goal.loop-piece-preserved
 loop-piece-preserved c =
     let h = c.args.heap.now in
     let s = c.args.settings.now in
-    let f = value h c.args.call.now.control in
-    let a = given h c.args.call.now.arguments in
     let ps = c.args.call.now.pieces.items in
-    let all = formatted s f a (map piece_as ps) (map (value h) c.args.call.now.values.items) in
+    let all = formatted s (map piece_as ps) (map (value h) c.args.call.now.values.items) in
     let held : c.deref-piece-items.result.now ≡ ps = c.deref-piece-items.ensures.value in
     let i = c.loop-piece.piece-index in
     let within : i < length ps = subst (λ (qs : List Part). i < length qs) held c.loop-piece-test.true in
@@ -32,9 +30,9 @@ loop-piece-preserved c =
           record {
             values = subst (AreValues h) same c.loop-piece.invariant.values;
             so_far =
-                one_byte s f a all text after (map (value h) ts) w.in-Byte.c
-                (c.loop-piece.invariant.so_far ∙ ap (λ (qs : List Part). joined (Ok text) (formatted s f a (map piece_as qs) (map (value h) ts))) next)
-                ∙ ap₂ (λ t us. joined (Ok t) (formatted s f a after (map (value h) us))) written same;
+                one_byte s all text after (map (value h) ts) w.in-Byte.c
+                (c.loop-piece.invariant.so_far ∙ ap (λ (qs : List Part). joined (Ok text) (formatted s (map piece_as qs) (map (value h) ts))) next)
+                ∙ ap₂ (λ t us. joined (Ok t) (formatted s after (map (value h) us))) written same;
           }
       | in-Takes+in-Some+in_ok-more-in-Takes+in-Ok+in_ok-extend_from_slice-in-Ok w ↦
           let d = w.in-Takes.directive in
@@ -50,27 +48,9 @@ loop-piece-preserved c =
           record {
             values = subst (AreValues h) same (subst (AreValues h) first c.loop-piece.invariant.values).1;
             so_far =
-                one_argument s f a all text after (map (value h) rest) (directive_as d) (value h v) more
-                (c.loop-piece.invariant.so_far ∙ ap₂ (λ (qs : List Part) us. joined (Ok text) (formatted s f a (map piece_as qs) (map (value h) us))) next first)
+                one_argument s all text after (map (value h) rest) (directive_as d) (value h v) more
+                (c.loop-piece.invariant.so_far ∙ ap₂ (λ (qs : List Part) us. joined (Ok text) (formatted s (map piece_as qs) (map (value h) us))) next first)
                 found
-                ∙ ap₂ (λ t us. joined (Ok t) (formatted s f a after (map (value h) us))) written same;
+                ∙ ap₂ (λ t us. joined (Ok t) (formatted s after (map (value h) us))) written same;
           }
     ]
-
-pub returns-in-Amiss : goal.returns-in-Amiss
-returns-in-Amiss c =
-    let h = c.args.heap.now in
-    let s = c.args.settings.now in
-    let f = value h c.args.call.now.control in
-    let a = given h c.args.call.now.arguments in
-    let ps = c.args.call.now.pieces.items in
-    let held : c.deref-piece-items.result.now ≡ ps = c.deref-piece-items.ensures.value in
-    let i = c.loop-piece.piece-index in
-    let within : i < length ps = subst (λ (qs : List Part). i < length qs) held c.loop-piece-test.true in
-    let text = c.loop-piece.text.items in
-    let ts = c.loop-piece.left.now in
-    let is : get_or ps i (parts.Byte 0) ≡ parts.Amiss = subst (λ (qs : List Part). get_or qs i (parts.Byte 0) ≡ parts.Amiss) held c.in-Amiss.is in
-    let next : drop i ps ≡ parts.Amiss ∷ drop (i + 1) ps = from_item ps i (parts.Byte 0) parts.Amiss within is in
-    let culprit : c.in_ok-culprit-in-Amiss.culprit ≡ f = search rules in
-    sym (c.loop-piece.invariant.so_far ∙ ap (λ (qs : List Part). joined (Ok text) (formatted s f a (map piece_as qs) (map (value h) ts))) next
-    ∙ ap Err (search rules))

@@ -2,12 +2,12 @@ use Rattle.std.proofs.Common.{◌≡◌, ◌∷◌, ℕ, [], List, Result, IfOk,
 use Rattle.plcells.specs.declared.cell.Cell.{Cell}
 use Rattle.plcells.specs.Store.{Store, value}
 use Rattle.plnames.specs.declared.kind.Output.{Output}
-use Rattle.plnames.specs.declared.kind.Output.TheVariants.{Write, WriteQuoted, WriteCanonical, WriteLine, Format}
+use Rattle.plnames.specs.declared.kind.Output.TheVariants.{Write, WriteQuoted, WriteCanonical, WriteLine}
 use Rattle.plprogram.specs.declared.settings.Settings.{Settings}
 use Rattle.plbuiltin.specs.Output.{on_output}
 use Rattle.planswers.specs.declared.answer.Answer.{Answer}
 use Rattle.planswers.specs.Answers.{meant}
-use Rattle.pltexts.proofs.Arguments.{list-one, list-two, means}
+use Rattle.pltexts.proofs.Arguments.{list-one, means}
 use Rattle.pltexts.proofs.output.output_answer.Goals as goal
 
 told : {E : Type 0} (r : Result Answer E) (h : Store) (s : Settings) (b d : Output) (xs ys : List Cell) → b ≡ d → xs ≡ ys → IfOk r (λ answer. (n : ℕ) → meant h s n answer ≡ on_output d (map (value h) ys) s) →
@@ -33,8 +33,3 @@ pub returns-in-WriteLine-len1-clause-is : goal.returns-in-WriteLine-len1-clause-
 returns-in-WriteLine-len1-clause-is c = told c.write_line.result c.args.heap.now c.args.settings.now c.args.b WriteLine c.args.args.now (c.v-item-then-this-lt2-4.result ∷ []) c.in-WriteLine-len1.is-0
     (list-one c.args.args.now c.v-item-then-this-lt2-4.result c.in-WriteLine-len1.len_at_least c.in-WriteLine-len1.len_below c.v-item-then-this-lt2-4.is)
     c.write_line.ensures.is
-
-pub returns-in-Format-len2-clause-is : goal.returns-in-Format-len2-clause-is
-returns-in-Format-len2-clause-is c = told c.format-in-Format-len2.result c.args.heap.now c.args.settings.now c.args.b Format c.args.args.now (c.control-item-then-this-lt3.result ∷ c.values-item.result ∷ []) c.in-Format-len2.is-0
-    (list-two c.args.args.now c.control-item-then-this-lt3.result c.values-item.result c.in-Format-len2.len_at_least c.in-Format-len2.len_below c.control-item-then-this-lt3.is c.values-item.is)
-    c.format-in-Format-len2.ensures.is
