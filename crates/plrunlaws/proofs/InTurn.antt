@@ -3,49 +3,23 @@ use Rattle.std.proofs.Common.{◌≡◌, ℕ, zero, suc, ◌+◌, ◌⊎◌, inl
 use Rattle.std.proofs.lemmas.List.{append_cancel_left}
 use Rattle.plevent.specs.declared.request.ThreadEnd.{ThreadEnd}
 use Rattle.plevent.specs.declared.request.Request.{Request}
-use Rattle.plevent.specs.declared.request.Request.TheVariants.{HaltRun}
-use Rattle.plevent.specs.declared.request.Reply.{Reply}
 use Rattle.plevent.specs.declared.update.Update.{Update}
 use Rattle.plevent.specs.declared.act.Act.{Act}
 use Rattle.plevent.specs.Reading.{reading}
 use Rattle.plevent.specs.Rows.{served}
-use Rattle.plevent.specs.Search.{Item, View, Ask}
-use Rattle.plhist.specs.Follows.{own, Taken, is_not_yet, noted, answered, from_start}
+use Rattle.plevent.specs.Search.{Item, Ask}
+use Rattle.plhist.specs.Follows.{own, Taken, from_start}
 use Rattle.plsearch.specs.Types.{Result, Supply}
 use Rattle.plsearch.specs.Machines.Machine.{Back}
 use Rattle.pltransactions.specs.Laws.{wanted}
-use Rattle.pltransactions.proofs.Transactions.{open-asks-nothing}
 use Rattle.plrunlaws.specs.Standing.{Followed, asks, at_turn, is_open, IsAnswered, start_of, started, StandsAt, act_of}
 use Rattle.plrunlaws.specs.Transactions.{IsAskedInTurn, EachBatchInTurn}
-use Rattle.plrunlaws.proofs.Items.{none-some, the-same, answer-is, takes-nothing}
+use Rattle.plrunlaws.proofs.Items.{takes-nothing}
 use Rattle.plrunlaws.proofs.Standing.{whole, AskedAt, asked-at, stays-else, entries-in-order}
-use Rattle.plrunlaws.proofs.Transactions.{reached}
-use Rattle.plrunlaws.proofs.Unended.{IsThat, served-ends, ceases, comes-to-end}
+use Rattle.plrunlaws.proofs.Inside.{no-clauses, makes-of-clauses, Entered, enters}
+use Rattle.plrunlaws.proofs.Unended.{ceases, comes-to-end}
 use Rattle.plrunlaws.proofs.Batches.{served-makes}
 use Rattle.plrunlaws.proofs.Lists.{heads, all-at}
-
--- an item's entry is that of its row
-record Entered (f : Followed) (q : Item) (g : ℕ) (s s' : Taken) : Type 0 where
-  act : Act
-  made : s'.made ≡ s.made ++ (g, act) ∷ []
-  asked : Request
-  is : q ≡ Ask asked
-  owner : ℕ
-  row : (served asked f.run.thread (reading (take g f.journal))).1 ≡ Some (owner, act)
-
-noted-enters : (f : Followed) (q : Request) (g : ℕ) (s s' : Taken) (b : Bool) (p : Reply) (o : Option (ℕ × Act)) → (served q f.run.thread (reading (take g f.journal))).1 ≡ o → noted b g s p o ≡ Some s' →
-    (s'.made ≡ s.made) ⊎ Entered f (Ask q) g s s'
-noted-enters f q g s s' true p o row is = none-some s' is
-noted-enters f q g s s' false p None row is = inl (ap (λ s. s.made) (sym (the-same _ s' is)))
-noted-enters f q g s s' false p (Some a) row is = inr (record { act = a.1; made = ap (λ s. s.made) (sym (the-same _ s' is)); asked = q; is = refl; owner = a.0; row = row })
-
-enters : (f : Followed) (q : Item) (g : ℕ) (s s' : Taken) → IsAnswered f q g s s' → (s'.made ≡ s.made) ⊎ Entered f q g s s'
-enters f q g s s' is = go q (answer-is f.journal f.run.thread q g s s' is).1
-  where
-    go : (q : Item) → answered f.journal f.run.thread q g s ≡ Some s' → (s'.made ≡ s.made) ⊎ Entered f q g s s'
-    go View is = inl (ap (λ s. s.made) (sym (the-same _ s' is)))
-    go (Ask q) is =
-        let x = served q f.run.thread (reading (take g f.journal)) in noted-enters f q g s s' (is_not_yet x.0) x.0 x.1 refl is
 
 abbrev Mine : Type 0
 Mine = List (ℕ × Act)
@@ -54,23 +28,15 @@ module _ (f : Followed) (before behind : Mine) (g : ℕ) (us : List Update) (own
   abbrev entry : ℕ × Act
   entry = (g, Act.Batch us)
 
-  -- where nothing is open: what is asked in what is open makes no batch
+  -- where nothing is open: what makes a batch asks for clauses
   closed-there : (k : ℕ) (q : Request) (owner : ℕ) → wanted (at_turn f k) ≡ Some (Ask q) → (served q f.run.thread (reading (take g f.journal))).1 ≡ Some (owner, Act.Batch us) → is_open f k ≡ false
   closed-there k q owner is row = go (is_open f k) refl
     where
-      request : (q' : Request) → Ask q ≡ Ask q' → q ≡ q'
-      request q' same = cc
-
       go : (b : Bool) → is_open f k ≡ b → is_open f k ≡ false
       go false closed = closed
       go true now =
-          let halt = open-asks-nothing f.program (at_turn f k) (Ask q) (reached f k) now is in
-          let same = request (HaltRun halt.0) halt.1 in
           let r = reading (take g f.journal) in
-          absurd (apart (subst (IsThat (Act.Halt halt.0)) row (subst (λ q. IsThat (Act.Halt halt.0) (served q f.run.thread r).1) (sym same) (served-ends (Act.Halt halt.0) (HaltRun halt.0) f.run.thread r refl))))
-        where
-          apart : {n : ℕ} → Act.Batch us ≡ Act.Halt n → ⊥
-          apart is = cc
+          absurd (no-clauses f k now (Ask q) is (makes-of-clauses r q us (served-makes q f.run.thread r owner us row).0.makes))
 
   no-end : (e : ThreadEnd) → Act.Batch us ≡ act_of e → ⊥
   no-end (ThreadEnd.Halt n) is = cc

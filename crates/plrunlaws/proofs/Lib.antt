@@ -4,6 +4,7 @@ mod Served
 mod Machines
 pub mod Batches
 pub mod Standing
+mod Inside
 pub mod Ends
 mod Once
 pub mod Transactions

@@ -42,6 +42,10 @@ module _ {A : Type 0} where
   all-parts P [] h = All-nil P
   all-parts P (y ∷ l) h = All-cons P y l (h [] l y refl) (all-parts P l (λ xs ys x is. h (y ∷ xs) ys x (ap (λ l. y ∷ l) is)))
 
+  pub all-front : (P : A → Type 0) (xs ys : List A) → All P (xs ++ ys) → All P xs
+  all-front P [] ys all = All-nil P
+  all-front P (x ∷ xs) ys all = All-cons P x xs (All-head P x (xs ++ ys) all) (all-front P xs ys (All-tail P x (xs ++ ys) all))
+
   pub all-at : (P : A → Type 0) (xs : List A) (y : A) (ys : List A) → All P (xs ++ y ∷ ys) → P y
   all-at P [] y ys all = All-head P y ys all
   all-at P (x ∷ xs) y ys all = all-at P xs y ys (All-tail P x (xs ++ y ∷ ys) all)

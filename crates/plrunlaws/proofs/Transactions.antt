@@ -1,5 +1,5 @@
 -- What a transaction or a snapshot does to the journal of a run.
-use Rattle.std.proofs.Common.{◌≡◌, ℕ, zero, suc, ◌+◌, ◌-◌, ◌<◌, ◌≤◌, ◌⊎◌, inl, inr, Bool, true, false, List, [], ◌∷◌, ◌++◌, take, Option, Some, None, refl, sym, ap, ◌∙◌, subst, arith, append_assoc, eq-or-lt_of_le}
+use Rattle.std.proofs.Common.{◌≡◌, ℕ, suc, ◌<◌, ◌≤◌, ◌⊎◌, inl, inr, Bool, true, false, List, [], ◌∷◌, ◌++◌, take, Some, refl, sym, ap, ◌∙◌, subst, arith, append_assoc}
 use Rattle.std.proofs.lemmas.List.{append_cancel_left}
 use Rattle.plevent.specs.declared.request.ThreadEnd.{ThreadEnd}
 use Rattle.plevent.specs.declared.request.Request.TheVariants.{Publish}
@@ -8,24 +8,25 @@ use Rattle.plevent.specs.declared.update.Update.{Update}
 use Rattle.plevent.specs.declared.act.Act.{Act}
 use Rattle.plevent.specs.Reading.{Reading, reading}
 use Rattle.plevent.specs.Rows.{served}
-use Rattle.plevent.specs.Search.{Item, View, Ask, Answer, Seen, Got, Ceases, Finishes}
+use Rattle.plevent.specs.Search.{View, Ask, Answer, Seen, Got, Ceases, Finishes}
 use Rattle.plhist.specs.Follows.{own, Taken, replied}
 use Rattle.pltx.specs.Own.{any_open, nothing}
 use Rattle.pltx.specs.declared.level.Level.{Level}
 use Rattle.plprogram.specs.Program.{Program}
-use Rattle.plsearch.specs.Types.{Result, Halted, Stopped, Unfit, Transact, GoesOn, Await, Element, Marker, Asking, Resolvent, Case, Mark, Supply}
+use Rattle.plsearch.specs.Types.{Stopped, Transact, GoesOn, Await, Element, Marker, Asking, Resolvent, Case, Mark, Supply}
 use Rattle.plsearch.specs.Moves.{publishing}
 use Rattle.plsearch.specs.Rows.{meet}
 use Rattle.plsearch.specs.Replies.{answered}
 use Rattle.plsearch.specs.Machines.Machine.{Mode, At, Back, Machine, Rest, ask, turn}
-use Rattle.pltransactions.specs.Laws.{turns, machine_of, IsReached, wanted, IsLast, IsEnding, at_end, its_updates}
-use Rattle.pltransactions.proofs.Transactions.{open-asks-nothing, open-answer-ends, outer-end-publishes}
+use Rattle.pltransactions.specs.Laws.{wanted, IsEnding, at_end, its_updates}
+use Rattle.pltransactions.proofs.Transactions.{outer-end-publishes}
 use Rattle.pltransactions.proofs.Opening.{opens-with-view, closes-at-its-end}
-use Rattle.plrunlaws.specs.Standing.{Followed, answers, at_turn, IsAnswered, started, StandsAt, AreFrom}
+use Rattle.plrunlaws.specs.Standing.{Followed, at_turn, IsAnswered, started, StandsAt, AreFrom}
 use Rattle.plrunlaws.specs.Transactions.{Lasts, updates_at, published_in, with_batch, Publishes, TransactionsStandAlone}
 use Rattle.plrunlaws.proofs.Items.{none-some, the-same, below-more, answer-is}
-use Rattle.plrunlaws.proofs.Machines.{turns-next, turns-both, IsFinal, final-rest, final-stays}
-use Rattle.plrunlaws.proofs.Standing.{ends-with, AskedAt, asked-at, stands-somewhere, stays-else, started-below, entries-in-order}
+use Rattle.plrunlaws.proofs.Machines.{final-rest}
+use Rattle.plrunlaws.proofs.Standing.{ends-with, AskedAt, asked-at, stands-somewhere, started-below, entries-in-order}
+use Rattle.plrunlaws.proofs.Inside.{next-turn, no-clauses, Between, inside-between}
 use Rattle.plrunlaws.proofs.Served.{served-as}
 use Rattle.plrunlaws.proofs.Lists.{last-same}
 
@@ -34,23 +35,6 @@ apart holds fails = never (sym holds ∙ fails)
   where
     never : true ≡ false → ⊥
     never is = cc
-
-pub reached : (f : Followed) (k : ℕ) → IsReached f.program (at_turn f k)
-reached f k = (f.limit, answers f, k, refl)
-
-pub next-turn : (f : Followed) (k : ℕ) → at_turn f (suc k) ≡ turn f.program (at_turn f k)
-next-turn f k = turns-next f.program k (machine_of f.program f.limit (answers f))
-
-pub last-final : (n : ℕ) (r : Result) → IsLast n r → IsFinal r
-last-final n (Halted k) is = tt
-last-final n Stopped is = tt
-last-final n Unfit is = tt
-last-final n r is = absurd is
-
--- where a result that nothing goes on behind is carried outward, what is open stays open
-last-stays : (P : Program) (n i : ℕ) (m : Machine) (r : Result) → IsLast i r → m.mode ≡ Back r → (turns P n m).run ≡ m.run
-last-stays P n i m r is at =
-    ap (λ mode. (turns P n (record { mode = mode; cases = m.cases; run = m.run })).run) at ∙ final-stays P n r m.cases m.run (last-final i r is)
 
 -- the view with which it begins
 pub record Viewed (f : Followed) (s : Taken) (g : ℕ) (s' : Taken) : Type 0 where
@@ -69,33 +53,9 @@ module _ (f : Followed) (k j : ℕ) (lasts : Lasts f k j) where
   begins : wanted (at_turn f k) ≡ Some View
   begins = opens-with-view f.program (at_turn f k) lasts.before (ap (λ m. any_open m.run.local.own) (sym (next-turn f k)) ∙ lasts.between (suc k) (omega arith) (omega (arith, lasts.longer)))
 
-  -- nothing is asked to its end
-  silent : (i : ℕ) (s : Taken) → k < i → i ≤ j → StandsAt f i s → wanted (at_turn f i) ≡ None
-  silent i s after within stood = go (wanted (at_turn f i)) refl
-    where
-      go : (o : Option Item) → wanted (at_turn f i) ≡ o → wanted (at_turn f i) ≡ None
-      go None is = is
-      go (Some q) is =
-          let now = lasts.between i after within in
-          let one = asked-at f i s q stood is in
-          let halt = open-asks-nothing f.program (at_turn f i) q (reached f i) now is in
-          let end = open-answer-ends f.program (at_turn f i) halt.0 one.answer one.others (reached f i) now (is ∙ ap Some halt.1) one.left in
-          let far : suc i + (j - i) ≡ suc j = omega (arith, within) in
-          let there : (at_turn f (suc j)).run ≡ (turn f.program (at_turn f i)).run =
-          ap (λ n. (at_turn f n).run) (sym far)
-          ∙ ap (λ m. m.run) (turns-both f.program (suc i) (j - i) (machine_of f.program f.limit (answers f)))
-          ∙ ap (λ m. (turns f.program (j - i) m).run) (next-turn f i)
-          ∙ last-stays f.program (j - i) halt.0 (turn f.program (at_turn f i)) end.0 end.1 end.2 in
-          absurd (apart (ap (λ run. any_open run.local.own) there ∙ ap (λ w. any_open w.own) end.3 ∙ now) lasts.behind)
-
-  -- so the run stands where the view put it
-  stays : (s : Taken) → StandsAt f (suc k) s → (i : ℕ) → k < i → i ≤ suc j → StandsAt f i s
-  stays s stood zero after within = absurd (omega (arith, after))
-  stays s stood (suc i) after within = go (eq-or-lt_of_le {n = k} {m = i} (omega (arith, after))) (stays s stood i)
-    where
-      go : ((k ≡ i) ⊎ (k < i)) → (k < i → i ≤ suc j → StandsAt f i s) → StandsAt f (suc i) s
-      go (inl is) before = subst (λ n. StandsAt f (suc n) s) is stood
-      go (inr later) before = let here = before later (omega (arith, within)) in stays-else f i s here (silent i s later (omega (arith, within)) here)
+  -- what it makes to its end
+  stays : (begun : Taken) → StandsAt f (suc k) begun → (i : ℕ) → k < i → i ≤ suc j → (s : Taken) → StandsAt f i s → Between begun s
+  stays begun first i after within s there = inside-between f k i begun first (λ n lo hi. lasts.between n lo (omega (arith, hi, within))) after s there
 
 -- the answer to a publication
 pub ceases-ends : {A : Type 0} (e : ThreadEnd) → Ceases ≡ Finishes e → A
@@ -180,23 +140,31 @@ transactions-stand-alone f k j lasts =
     let begun = one.after in
     let view = viewed f before one.place begun one.answered in
     let longer = lasts.longer in
-    let still = stays f k j lasts begun one.stands in
-    let there = still (suc j) (omega (arith, longer)) (omega arith) in
-    let part = entries-in-order f (suc j) begun there in
-    let made : started f begun.made ≡ started f before.made = ap (started f) view.made in record {
+    let there = stands-somewhere f (suc j) in
+    let done = there.0 in
+    let inside = (stays f k j lasts begun one.stands (suc j) (omega (arith, longer)) (omega arith) done there.1).adds in
+    let part = entries-in-order f (suc j) done there.1 in
+    let made : done.made ≡ before.made ++ inside.inside = inside.made ∙ ap (λ l. l ++ inside.inside) view.made in record {
       before = before;
       place = one.place;
       begun = begun;
       stood = here.1;
       views = one.answered;
-      stays = still;
+      asks = λ i after within. no-clauses f i (lasts.between i after within);
+      stays = λ i after within s at. (stays f k j lasts begun one.stands i after within s at).adds;
+      done = done;
+      stands = there.1;
+      inside = inside.inside;
       later = part.later;
-      entries = part.entries ∙ ap (λ l. l ++ part.later) made;
+      entries = part.entries ∙ ap (λ l. started f l ++ part.later) made;
       below = below-more before.low one.place (started f before.made) view.behind (started-below f k before here.1);
-      from = subst (λ g. AreFrom g part.later) view.low part.from;
+      from = subst (λ g. AreFrom g inside.inside) view.low inside.from;
+      none = inside.none;
+      made = made;
+      behind = part.from;
       publishes =
           let end = closes-at-its-end f.program (at_turn f j) (lasts.between j longer (omega arith)) (ap (λ m. any_open m.run.local.own) (sym (next-turn f j)) ∙ lasts.behind) in
-          ends f j begun there part.later part.entries (at_turn f j) refl (at_turn f j).mode refl end;
+          ends f j done there.1 part.later part.entries (at_turn f j) refl (at_turn f j).mode refl end;
     }
 
 pub ruleset laws = (transactions-stand-alone)

@@ -5,13 +5,13 @@ use Rattle.std.proofs.lemmas.List.{append_cancel_left, append_cancel_right}
 use Rattle.std.proofs.lemmas.List.Elements.{All-nil, All-cons, All-append}
 use Rattle.plevent.specs.declared.request.ThreadEnd.{ThreadEnd}
 use Rattle.plevent.specs.declared.request.Request.{Request}
-use Rattle.plevent.specs.declared.request.Request.TheVariants.{Finish, HaltRun}
+use Rattle.plevent.specs.declared.request.Request.TheVariants.{Finish}
 use Rattle.plevent.specs.declared.request.Reply.{Reply}
 use Rattle.plevent.specs.declared.act.Act.{Act}
 use Rattle.plevent.specs.declared.act.Entry.{Entry}
 use Rattle.plevent.specs.Reading.{Reading, reading}
 use Rattle.plevent.specs.Rows.{finish_row, row, served}
-use Rattle.plevent.specs.Search.{Item, View, Ask, Answer, Next, Finishes, item_of_end, item_of, Seen, Got}
+use Rattle.plevent.specs.Search.{View, Ask, Answer, Next, Finishes, item_of_end, item_of, Seen, Got}
 use Rattle.plhist.specs.Follows.{Taken, is_not_yet, noted, item_at, takes, from_start, last_of, own}
 use Rattle.pltx.specs.Own.{any_open}
 use Rattle.plsearch.specs.Types.{Result, Stop, Fail, CutTo, Throw, Halted, Spent, Awaits, Stopped, Unfit, Supply}
@@ -19,20 +19,20 @@ use Rattle.plsearch.specs.Engine.{outs}
 use Rattle.plsearch.specs.Search.{next_of}
 use Rattle.plsearch.specs.Machines.Machine.{Back, Rest, turn}
 use Rattle.plsearch.proofs.Ends.{ends_ignore}
-use Rattle.pltransactions.specs.Laws.{turns, machine_of, wanted, IsLast, IsDone}
-use Rattle.pltransactions.proofs.Transactions.{search-by-turns, open-asks-nothing, open-answer-ends, nothing-left-open}
+use Rattle.pltransactions.specs.Laws.{turns, machine_of, wanted, IsDone}
+use Rattle.pltransactions.proofs.Transactions.{search-by-turns, nothing-left-open}
 use Rattle.pltransactions.proofs.Opening.{opens-with-view}
-use Rattle.plrunlaws.specs.Standing.{Followed, asks, answers, at_turn, is_open, started, StandsAt, act_of, IsNoEnd, start_of, AreBelow}
-use Rattle.plrunlaws.specs.Transactions.{IsCutShort, LastsToTheEnd, NothingOfItStays, Lasts, EndsOrLasts}
+use Rattle.plrunlaws.specs.Standing.{Followed, asks, answers, at_turn, is_open, started, StandsAt, act_of, start_of, AreBelow, AreFrom}
+use Rattle.plrunlaws.specs.Transactions.{IsNoBatch, NoBatch, IsCutShort, LastsToTheEnd, NothingOfItStays, Lasts, EndsOrLasts}
 use Rattle.plrunlaws.proofs.Items.{none-some, the-same, below-more, answer-is, item-adds, takes-first, takes-none, takes-behind, takes-adds}
-use Rattle.plrunlaws.proofs.Machines.{turns-both, with_answers, final-rest}
-use Rattle.plrunlaws.proofs.Standing.{wants-ends, least-same, search-at, ends-with, short-of, asked-at, stands-somewhere, stays-else, started-below, entries-in-order}
-use Rattle.plrunlaws.proofs.Transactions.{reached, next-turn, last-final, viewed, ceases-ends}
+use Rattle.plrunlaws.proofs.Machines.{turns-both, with_answers}
+use Rattle.plrunlaws.proofs.Standing.{wants-ends, least-same, search-at, ends-with, short-of, asked-at, stands-somewhere, started-below, entries-in-order}
+use Rattle.plrunlaws.proofs.Inside.{next-turn, inside-between}
+use Rattle.plrunlaws.proofs.Transactions.{viewed, ceases-ends}
 use Rattle.plrunlaws.proofs.Served.{served-as}
-use Rattle.plrunlaws.proofs.Once.{ends-once}
 use Rattle.plrunlaws.proofs.Ends.{ends-with-its-end}
 use Rattle.plevent.specs.Alive.{Stamped}
-use Rattle.plrunlaws.proofs.Lists.{part-last, last-same, all-at}
+use Rattle.plrunlaws.proofs.Lists.{part-last, last-same, all-more, all-front, all-at}
 
 -- this act, or none
 abbrev pub IsThat : Act → Option (ℕ × Act) → Type 0
@@ -151,64 +151,15 @@ short-end (Awaits q) e open_now is = wants-ends q e is
 short-end Stopped e open_now is = ceases-ends e is
 short-end Unfit e open_now is = ceases-ends e is
 
--- where an answer ended the run
-halted-end : (n : ℕ) (r : Result) (e : ThreadEnd) → IsLast n r → next_of r ≡ Finishes e → ThreadEnd.Halt n ≡ e
-halted-end n (Halted k) e last is = let same : ThreadEnd.Halt k ≡ e = cc in ap ThreadEnd.Halt (sym last) ∙ same
-halted-end n Stopped e last is = ceases-ends e is
-halted-end n Unfit e last is = ceases-ends e is
-halted-end n r e last is = absurd last
-
-module _ (f : Followed) (k : ℕ) (lasts : LastsToTheEnd f k) (begun : Taken) where
-  abbrev ItsEnd : Type 0
-  ItsEnd = IsCutShort f.came_to × AddsEnds (act_of f.came_to) begun f.ended.asked.last
-
-  -- it asks to end the run
-  halts : (i : ℕ) (q : Item) → k < i → StandsAt f i begun → wanted (at_turn f i) ≡ Some q → ItsEnd
-  halts i q after stood is =
-      let last = f.ended.asked.last in
-      let now = lasts.behind i after in
-      let one = asked-at f i begun q stood is in
-      let halt = open-asks-nothing f.program (at_turn f i) q (reached f i) now is in
-      let end = open-answer-ends f.program (at_turn f i) halt.0 one.answer one.others (reached f i) now (is ∙ ap Some halt.1) one.left in
-      let there : (at_turn f (suc i)).mode ≡ Back end.0 = ap (λ m. m.mode) (next-turn f i) ∙ end.2 in
-      let cases = (at_turn f (suc i)).cases in
-      let run = (at_turn f (suc i)).run in
-      let final = last-final halt.0 end.0 end.1 in
-      let rest : Rest f.program (at_turn f (suc i)) ≡ (end.0, run) =
-      ap (λ mode. Rest f.program (record { mode = mode; cases = cases; run = run })) there ∙ final-rest f.program end.0 cases run final in
-      let short : Supply = record run { answers = [] } in
-      let rest_short : Rest f.program (with_answers [] (at_turn f (suc i))) ≡ (end.0, short) =
-      ap (λ mode. Rest f.program (record { mode = mode; cases = cases; run = short })) there ∙ final-rest f.program end.0 cases short final in
-      let ends = ends-with f (suc i) end.0 run rest in
-      let over : asks f one.after.answers ≡ Finishes f.came_to = asks-then f (suc i) one.after one.stands ∙ ap (λ e. next_of e.0) rest_short ∙ ends in
-      let halted : ThreadEnd.Halt halt.0 ≡ f.came_to = halted-end halt.0 end.0 f.came_to end.1 ends in
-      let asked : AddsEnds (Act.Halt halt.0) begun one.after =
-      item-ends (Act.Halt halt.0) f.journal f.run.thread (HaltRun halt.0) one.place begun one.after (λ r. refl) (ap (λ q. item_at f.journal f.run.thread (Some q) one.place begun) (sym halt.1) ∙ one.answered) in (
-        subst IsCutShort halted tt,
-        adds-both (act_of f.came_to) begun one.after last
-            (subst (λ e. AddsEnds (act_of e) begun one.after) halted asked)
-            (takes-ends (asks f) f.journal f.run.thread f.came_to one.stands.later one.after last (stays-ended f one.after f.came_to over) one.stands.rest),
-      )
-
-  -- or it comes to its end with nothing asked
-  spends : (i : ℕ) (r : Result) (run : Supply) → k < i → StandsAt f i begun → at_turn f i ≡ record { mode = Back r; cases = []; run = run } → ItsEnd
-  spends i r run after stood is = (short-end r f.came_to open_there (ends-with f i r run (ap (Rest f.program) is ∙ over-rest f r run)), ceases f begun i r run stood is)
-    where
-      open_there : IsDone r → ⊥
-      open_there done =
-          let none = nothing-left-open f.program r run (f.limit, answers f, i, sym is) done in
-          never (sym (lasts.behind i after) ∙ ap (λ m. any_open m.run.local.own) is ∙ ap any_open none)
-        where
-          never : true ≡ false → ⊥
-          never is = cc
-
-  looks : (n i : ℕ) (r : Result) (run : Supply) → k < i → StandsAt f i begun → at_turn f (i + n) ≡ record { mode = Back r; cases = []; run = run } → ItsEnd
-  looks zero i r run after stood is = let same : i ≡ i + 0 = omega arith in spends i r run after stood (ap (at_turn f) same ∙ is)
-  looks (suc n) i r run after stood is = go (wanted (at_turn f i)) refl (looks n (suc i) r run (omega (arith, after)))
-    where
-      go : (o : Option Item) → wanted (at_turn f i) ≡ o → (StandsAt f (suc i) begun → at_turn f (suc i + n) ≡ record { mode = Back r; cases = []; run = run } → ItsEnd) → ItsEnd
-      go None none more = let same : suc i + n ≡ i + suc n = omega arith in more (stays-else f i begun stood none) (ap (at_turn f) same ∙ is)
-      go (Some q) asked more = halts i q after stood asked
+-- so where something is open at the end of its machine's turns
+open-short : (f : Followed) (n : ℕ) (r : Result) (run : Supply) → at_turn f n ≡ record { mode = Back r; cases = []; run = run } → is_open f n ≡ true → IsCutShort f.came_to
+open-short f n r run is now = short-end r f.came_to not_done (ends-with f n r run (ap (Rest f.program) is ∙ over-rest f r run))
+  where
+    not_done : IsDone r → ⊥
+    not_done done = never (sym now ∙ ap (λ m. any_open m.run.local.own) is ∙ ap any_open (nothing-left-open f.program r run (f.limit, answers f, n, sym is) done))
+      where
+        never : true ≡ false → ⊥
+        never is = cc
 
 -- what begins has its end, or something is open to the end of the run
 scans : (f : Followed) (k : ℕ) → is_open f k ≡ false → (n j : ℕ) (r : Result) (run : Supply) → k < j → ((i : ℕ) → k < i → i ≤ j → is_open f i ≡ true) →
@@ -254,34 +205,17 @@ ends-or-lasts f k before now =
     first : (i : ℕ) → k < i → i ≤ suc k → is_open f i ≡ true
     first i after within = let same : i ≡ suc k = omega (arith, after, within) in ap (is_open f) same ∙ now
 
--- what tells of an end is the last entry
-ends-it : (e : ThreadEnd) (x : Act) → x ≡ act_of e → IsNoEnd x → ⊥
-ends-it e x is no_end = go e (subst IsNoEnd is no_end)
-  where
-    go : (e : ThreadEnd) → IsNoEnd (act_of e) → ⊥
-    go ThreadEnd.True h = h
-    go ThreadEnd.False h = h
-    go (ThreadEnd.Exception b) h = h
-    go ThreadEnd.Budget h = h
-    go (ThreadEnd.Halt n) h = h
+-- what tells of an end is no batch
+end-no-batch : (e : ThreadEnd) → IsNoBatch (act_of e)
+end-no-batch ThreadEnd.True = tt
+end-no-batch ThreadEnd.False = tt
+end-no-batch (ThreadEnd.Exception b) = tt
+end-no-batch ThreadEnd.Budget = tt
+end-no-batch (ThreadEnd.Halt n) = tt
 
 module _ (f : Followed) where
   abbrev its_end : ℕ × Act
   its_end = (f.ended.asked.final, act_of f.came_to)
-
-  only-end : (front later : List (ℕ × Act)) → own f.run.thread f.journal ≡ front ++ later → All (λ x. x.1 ≡ act_of f.came_to) later → (later ≡ []) ⊎ (later ≡ its_end ∷ [])
-  only-end front later owns ends = go (part-last front later (started f f.ended.asked.before.made) its_end (sym owns ∙ ends-with-its-end f))
-    where
-      go : ((later ≡ []) ⊎ ((us : List (ℕ × Act)) × (started f f.ended.asked.before.made ≡ front ++ us) × (later ≡ us ++ its_end ∷ []))) → (later ≡ []) ⊎ (later ≡ its_end ∷ [])
-      go (inl none) = inl none
-      go (inr some) = rest some.0 some.1 some.2
-        where
-          rest : (us : List (ℕ × Act)) → started f f.ended.asked.before.made ≡ front ++ us → later ≡ us ++ its_end ∷ [] → (later ≡ []) ⊎ (later ≡ its_end ∷ [])
-          rest [] all is = inr is
-          rest (u ∷ us) all is =
-              let tells : u.1 ≡ act_of f.came_to = all-at (λ x. x.1 ≡ act_of f.came_to) [] u (us ++ its_end ∷ []) (subst (All (λ x. x.1 ≡ act_of f.came_to)) is ends) in
-              let other : IsNoEnd u.1 = all-at (λ x. IsNoEnd x.1) front u us (subst (All (λ x. IsNoEnd x.1)) all (ends-once f)) in
-              absurd (ends-it f.came_to u.1 tells other)
 
   -- an item that is not the last stands before the last
   before-last : (k : ℕ) (s : Taken) → StandsAt f k s → (s ≡ f.ended.asked.last → ⊥) → s.low ≤ f.ended.asked.final
@@ -299,12 +233,12 @@ module _ (f : Followed) where
           let le = low in
           omega (arith, rises, le)
 
-  one-entry : (front later : List (ℕ × Act)) (low : ℕ) → own f.run.thread f.journal ≡ front ++ later → All (λ x. x.1 ≡ act_of f.came_to) later → AreBelow low front → low ≤ f.ended.asked.final →
-      own f.run.thread f.journal ≡ front ++ its_end ∷ []
-  one-entry front later low owns ends below le = go (only-end front later owns ends)
+  -- its end is the last of the entries that stand from some place on
+  end-last : (front later : List (ℕ × Act)) (low : ℕ) → own f.run.thread f.journal ≡ front ++ later → AreBelow low front → low ≤ f.ended.asked.final → (us : List (ℕ × Act)) × (later ≡ us ++ its_end ∷ [])
+  end-last front later low owns below le = go (part-last front later (started f f.ended.asked.before.made) its_end (sym owns ∙ ends-with-its-end f))
     where
-      go : ((later ≡ []) ⊎ (later ≡ its_end ∷ [])) → own f.run.thread f.journal ≡ front ++ its_end ∷ []
-      go (inr is) = owns ∙ ap (λ l. front ++ l) is
+      go : ((later ≡ []) ⊎ ((us : List (ℕ × Act)) × (started f f.ended.asked.before.made ≡ front ++ us) × (later ≡ us ++ its_end ∷ []))) → (us : List (ℕ × Act)) × (later ≡ us ++ its_end ∷ [])
+      go (inr some) = (some.0, some.2)
       go (inl none) =
           let made = started f f.ended.asked.before.made in
           let all : made ++ its_end ∷ [] ≡ front = sym (ends-with-its-end f) ∙ owns ∙ ap (λ l. front ++ l) none ∙ append-nil front in
@@ -326,24 +260,34 @@ nothing-of-it-stays f k lasts =
     let part = entries-in-order f (suc k) begun one.stands in
     let made : started f begun.made ≡ started f before.made = ap (started f) view.made in
     let turned = comes-to-end f in
-    let late : turned.0 + suc k ≡ suc k + turned.0 = omega arith in
-    let found = looks f k lasts begun turned.0 (suc k) turned.1 turned.2 (omega arith) one.stands (ap (at_turn f) (sym late) ∙ over-late f (suc k) turned.0 turned.1 turned.2 turned.3) in
-    let ends = found.1 in
-    let same : ends.new ≡ part.later =
-    append_cancel_left (started f begun.made) ends.new part.later (sym (ap (started f) ends.made) ∙ sym f.ended.asked.entries ∙ part.entries) in
+    let n = turned.0 + suc k in
+    let over = over-late f (suc k) turned.0 turned.1 turned.2 turned.3 in
+    let there = stands-somewhere f n in
+    let adds = (inside-between f k n begun one.stands (λ i after within. lasts.behind i after) (omega arith) there.0 there.1).adds in
+    let ends = ceases f there.0 n turned.1 turned.2 there.1 over in
+    let all : f.ended.asked.last.made ≡ begun.made ++ (adds.inside ++ ends.new) = ends.made ∙ ap (λ l. l ++ ends.new) adds.made ∙ append_assoc begun.made adds.inside ends.new in
+    let same : adds.inside ++ ends.new ≡ part.later =
+    append_cancel_left (started f begun.made) (adds.inside ++ ends.new) part.later (sym (ap (started f) all) ∙ sym f.ended.asked.entries ∙ part.entries) in
+    let last_none = all-more (λ x. x.1 ≡ act_of f.came_to) (λ x. IsNoBatch x.1) ends.new (λ x is. subst IsNoBatch (sym is) (end-no-batch f.came_to)) ends.ends in
+    let none : NoBatch part.later = subst NoBatch same (All-append (λ x. IsNoBatch x.1) adds.inside ends.new adds.none last_none) in
     let below = below-more before.low one.place (started f before.made) view.behind (started-below f k before here.1) in
     let goes_on : begun ≡ f.ended.asked.last → ⊥ =
     λ is. seen-done one.place (reading (take one.place f.journal)).updates (last-same before.answers f.ended.asked.before.answers (Seen one.place (reading (take one.place f.journal)).updates) (Got Reply.Done) (sym view.answers ∙ ap (λ s. s.answers) is ∙ f.ended.asked.told)) in
-    let behind : one.place ≤ f.ended.asked.final = subst (λ g. g ≤ f.ended.asked.final) view.low (before-last f (suc k) begun one.stands goes_on) in record {
+    let behind : one.place ≤ f.ended.asked.final = subst (λ g. g ≤ f.ended.asked.final) view.low (before-last f (suc k) begun one.stands goes_on) in
+    let owns : own f.run.thread f.journal ≡ started f before.made ++ part.later = part.entries ∙ ap (λ l. l ++ part.later) made in
+    let end = end-last f (started f before.made) part.later one.place owns below behind in record {
       before = before;
       place = one.place;
       begun = begun;
       stood = here.1;
       views = one.answered;
-      entries = one-entry f (started f before.made) part.later one.place (part.entries ∙ ap (λ l. l ++ part.later) made) (subst (All (λ x. x.1 ≡ act_of f.came_to)) same ends.ends) below behind;
+      inside = end.0;
+      entries = owns ∙ ap (λ l. started f before.made ++ l) end.1 ∙ sym (append_assoc (started f before.made) end.0 (its_end f ∷ []));
       below = below;
+      from = all-front (λ x. one.place ≤ x.0) end.0 (its_end f ∷ []) (subst (AreFrom one.place) end.1 (subst (λ g. AreFrom g part.later) view.low part.from));
+      none = all-front (λ x. IsNoBatch x.1) end.0 (its_end f ∷ []) (subst NoBatch end.1 none);
       behind = behind;
-      short = found.0;
+      short = open-short f n turned.1 turned.2 over (lasts.behind n (omega arith));
     }
 
 pub ruleset laws = (ends-or-lasts, nothing-of-it-stays)

@@ -1,17 +1,18 @@
 -- What a transaction or a snapshot does to the journal of a run that follows main's search.
 use Rattle.std.specs.Prelude.{◌≡◌, ℕ, suc, ◌<◌, ◌≤◌, ◌⊎◌, true, false, List, [], ◌∷◌, ◌++◌, take, Some}
+use Rattle.std.specs.List.{All}
 use Rattle.plevent.specs.declared.request.ThreadEnd.{ThreadEnd}
 use Rattle.plevent.specs.declared.request.Request.{Request}
 use Rattle.plevent.specs.declared.request.Reply.{Reply}
 use Rattle.plevent.specs.declared.update.Update.{Update}
 use Rattle.plevent.specs.declared.act.Act.{Act}
 use Rattle.plevent.specs.Reading.{reading}
-use Rattle.plevent.specs.Search.{View, Ask, Got}
+use Rattle.plevent.specs.Search.{Item, View, Ask, Got}
 use Rattle.plhist.specs.Follows.{own, Taken}
 use Rattle.pltx.specs.Own.{State}
 use Rattle.pltx.specs.declared.level.Level.{Level}
 use Rattle.plsearch.specs.Machines.Machine.{Mode, At, Back, Machine}
-use Rattle.pltransactions.specs.Laws.{wanted, its_updates}
+use Rattle.pltransactions.specs.Laws.{wanted, IsOfClauses, its_updates}
 use Rattle.plrunlaws.specs.Batches.{MakesBatch}
 use Rattle.plrunlaws.specs.Standing.{Followed, at_turn, is_open, IsAnswered, started, StandsAt, AreBelow, AreFrom, act_of}
 
@@ -45,22 +46,44 @@ Publishes f j s [] later = Unit {0}
 Publishes f j s (u ∷ us) later =
     (g : ℕ) × (more : List (ℕ × Act)) × (later ≡ (g, Act.Batch (u ∷ us)) ∷ more) × StandsAt f (suc j) (with_batch g (u ∷ us) s)
 
--- An outermost transaction or snapshot begins with a view, at a place of the journal. To its end nothing else is asked: the run stands
--- where the view put it. So the thread makes no entry meanwhile: its entries are those that it made before the view, which stand below
--- the view's place, and those that are asked for behind the end, which do not. If it is a transaction that ends with success and has
--- updates, then the first of these is their batch.
+-- none of some entries is a batch
+abbrev pub IsNoBatch : Act → Type 0
+IsNoBatch (Act.Batch us) = ⊥
+IsNoBatch a = Unit {0}
+
+abbrev pub NoBatch : List (ℕ × Act) → Type 0
+NoBatch xs = All (λ x. IsNoBatch x.1) xs
+
+-- the items between make these entries, at places behind the first of two where it stands, and none of them is a batch
+pub record AddsNoBatch (s s' : Taken) : Type 0 where
+  pub inside : List (ℕ × Act)
+  pub made : s'.made ≡ s.made ++ inside
+  pub from : AreFrom s.low inside
+  pub none : NoBatch inside
+
+-- An outermost transaction or snapshot begins with a view, at a place of the journal. To its end no other view is asked for, and no batch
+-- or erasure. The entries that the thread makes meanwhile, where it asks for anything, are no batches: its entries are those that it made
+-- before the view, which stand below the view's place; those of the items asked inside, behind that place; and those that are asked for
+-- behind the end. If it is a transaction that ends with success and has updates, then the first of these last is their batch.
 pub record StandsAlone (f : Followed) (k j : ℕ) : Type 0 where
   pub before : Taken
   pub place : ℕ
   pub begun : Taken
   pub stood : StandsAt f k before
   pub views : IsAnswered f View place before begun
-  pub stays : (i : ℕ) → k < i → i ≤ suc j → StandsAt f i begun
+  pub asks : (i : ℕ) → k < i → i ≤ j → (q : Item) → wanted (at_turn f i) ≡ Some q → IsOfClauses q → ⊥
+  pub stays : (i : ℕ) → k < i → i ≤ suc j → (s : Taken) → StandsAt f i s → AddsNoBatch begun s
+  pub done : Taken
+  pub stands : StandsAt f (suc j) done
+  pub inside : List (ℕ × Act)
   pub later : List (ℕ × Act)
-  pub entries : own f.run.thread f.journal ≡ started f before.made ++ later
+  pub entries : own f.run.thread f.journal ≡ started f before.made ++ inside ++ later
   pub below : AreBelow place (started f before.made)
-  pub from : AreFrom place later
-  pub publishes : Publishes f (suc j) begun (published_by (at_turn f j)) later
+  pub from : AreFrom place inside
+  pub none : NoBatch inside
+  pub made : done.made ≡ before.made ++ inside
+  pub behind : AreFrom done.low later
+  pub publishes : Publishes f (suc j) done (published_by (at_turn f j)) later
 
 abbrev pub TransactionsStandAlone : Type 0
 TransactionsStandAlone = (f : Followed) (k j : ℕ) → Lasts f k j → StandsAlone f k j
@@ -81,15 +104,18 @@ abbrev pub EndsOrLasts : Type 0
 EndsOrLasts = (f : Followed) (k : ℕ) → is_open f k ≡ false → is_open f (suc k) ≡ true → ((j : ℕ) × Lasts f k j) ⊎ LastsToTheEnd f k
 
 -- A run ends inside of one where it has no step left, or ends the run there. Nothing of it is published then: from the place of the view on
--- the thread has one entry, which tells of that end.
+-- none of the thread's entries is a batch, and the last of them tells of that end.
 pub record EndsInside (f : Followed) (k : ℕ) : Type 0 where
   pub before : Taken
   pub place : ℕ
   pub begun : Taken
   pub stood : StandsAt f k before
   pub views : IsAnswered f View place before begun
-  pub entries : own f.run.thread f.journal ≡ started f before.made ++ (f.ended.asked.final, act_of f.came_to) ∷ []
+  pub inside : List (ℕ × Act)
+  pub entries : own f.run.thread f.journal ≡ started f before.made ++ inside ++ (f.ended.asked.final, act_of f.came_to) ∷ []
   pub below : AreBelow place (started f before.made)
+  pub from : AreFrom place inside
+  pub none : NoBatch inside
   pub behind : place ≤ f.ended.asked.final
   pub short : IsCutShort f.came_to
 

@@ -40,15 +40,16 @@ pub fn entries_in_order()
     ensures alone { EndsOnce }
 {}
 
-/// From the view with which an outermost transaction or snapshot begins to its end, the journal gets no entry of its thread; and if it
-/// is a transaction that ends with success and has updates, then the thread's next entry is their batch.
+/// From the view with which an outermost transaction or snapshot begins to its end, its thread asks for no other view, no batch and no
+/// erasure, and none of its entries in the journal is a batch; and if it is a transaction that ends with success and has updates, then
+/// the thread's next entry is their batch.
 #[tactic(auto, using(crate::proofs::Transactions::laws))]
 pub fn transactions_stand_alone()
     ensures { TransactionsStandAlone }
 {}
 
 /// An outermost transaction or snapshot has its end, or the run ends inside of it: because it has no step left, or ends the run there.
-/// From the view on its thread then makes no entry but those that tell of that end.
+/// From the view on none of its thread's entries is then a batch, and the last of them tells of that end.
 #[tactic(auto, using(crate::proofs::Unended::laws))]
 pub fn nothing_of_it_stays()
     ensures either { EndsOrLasts }

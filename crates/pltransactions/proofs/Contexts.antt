@@ -4,11 +4,12 @@ use Rattle.std.specs.Prelude.{nat_le}
 use Rattle.std.proofs.lemmas.Bool.Decides.{nat_tests}
 use Rattle.plterm.specs.Tree.{Tree}
 use Rattle.pltx.specs.Own.{State, any_open, nothing}
-use Rattle.plevent.specs.declared.request.Request.TheVariants.{HaltRun}
-use Rattle.plsearch.specs.Types.{Commit, Never, Until, Collect, Transact, Ends, Question, Await, Erase, Element, Goal, Marker, Raise, Asking, Case, Choice, Mark, Handle, Handler, Catch, Gather, Undo}
+use Rattle.plsearch.specs.Types.{Commit, Never, Until, Collect, Transact, Question, Erase, Element, Goal, Marker, Raise, Asking, Case, Choice, Mark, Handle, Handler, Catch, Gather, Undo}
 use Rattle.plsearch.specs.Lists.{bind_goals}
 use Rattle.plsearch.proofs.Cuts.{at-most}
 use Rattle.plsearch.specs.Engine.{deeper}
+use Rattle.plsearch.specs.Rows.{asked}
+use Rattle.pltransactions.specs.Laws.{IsOfClauses}
 
 -- what a case is
 pub data Sort : Type 0 where
@@ -83,15 +84,15 @@ Fits Γ (Raise b ∷ es) = Fits Γ es
 Fits Γ (Asking (Erase x) ∷ es) = Fits Γ es
 Fits Γ (Asking q ∷ es) = ⊥
 
--- it asks to end the run with a number, and nothing goes on behind it
-abbrev pub Halts : Question → Type 0
-Halts q = (n : ℕ) × (q ≡ Await (HaltRun n) (Ends n))
+-- it asks for no clauses
+abbrev pub AsksNoClauses : Question → Type 0
+AsksNoClauses q = IsOfClauses (asked q) → ⊥
 
 -- what a machine is at may ask besides, where nothing is open
 unfoldable pub FitsFirst : List Entry → State → List Element → Type 0
 unfolding Fits
 FitsFirst Γ x (Asking (Erase y) ∷ es) = Fits Γ es
-FitsFirst Γ x (Asking q ∷ es) = ((any_open x ≡ false) ⊎ Halts q) × Fits Γ es
+FitsFirst Γ x (Asking q ∷ es) = ((any_open x ≡ false) ⊎ AsksNoClauses q) × Fits Γ es
 FitsFirst Γ x es = Fits Γ es
 
 -- so many are open, and where none is, there is nothing

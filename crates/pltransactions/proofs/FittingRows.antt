@@ -17,7 +17,7 @@ use Rattle.plclause.specs.Named.{named_terms, indicator_of}
 use Rattle.plevent.specs.declared.update.Living.{Living}
 use Rattle.plevent.specs.declared.update.Update.{Update}
 use Rattle.plevent.specs.declared.update.Update.TheVariants.{Declare}
-use Rattle.plevent.specs.declared.request.Request.TheVariants.{EraseOne}
+use Rattle.plevent.specs.declared.request.Request.TheVariants.{EraseOne, HaltRun}
 use Rattle.plevent.specs.Alive.{Stamped, or_else, exists, living, clauses_alive}
 use Rattle.plevent.specs.Search.{Answer, Seen, Got}
 use Rattle.pltx.specs.Own.{all_made, any_open, begun}
@@ -36,10 +36,10 @@ use Rattle.plsearch.specs.Forms.{Form, True, False, Both, Either, IfThenElse, No
 use Rattle.plsearch.specs.Running.{Runnable, Runs, Raises, runnable, called}
 use Rattle.plsearch.specs.Moves.{is_true, before_rest, resolve, choose, call, raised, go_on, publishing, publish, first_of, run, beginner, opened}
 use Rattle.plsearch.specs.Lookups.{clause_term, as_fact, missing, retract, all_erased, looked_up, seen, seek}
-use Rattle.plsearch.specs.Rows.{finding, findall_3, gathering, beginning, call_with, branch, catching, thrown, halting, unless, unchangeable, added, add, no_head, no_body, unreadable, retrieving, halves, unerasable, undeclarable, user, solved, taken, offered, offer, row, select}
+use Rattle.plsearch.specs.Rows.{finding, findall_3, gathering, beginning, call_with, branch, catching, thrown, modulo_256, halting, unless, unchangeable, added, add, no_head, no_body, unreadable, retrieving, halves, unerasable, undeclarable, user, solved, taken, offered, offer, row, select}
 use Rattle.plsearch.specs.Replies.{Outcome, Served, Late, Stops, Misfits, outcome, follows, answered}
 use Rattle.plsearch.specs.Engine.{deeper}
-use Rattle.pltransactions.proofs.Contexts.{Choosing, Guarding, Undoing, Entry, entry, around, around-falls, undos, Fits, FitsFirst, Halts, Stands, fits-more, leads-fits, fits-bound, fits-first, leads-undos, upto-leads}
+use Rattle.pltransactions.proofs.Contexts.{Choosing, Guarding, Undoing, Entry, entry, around, around-falls, undos, Fits, FitsFirst, AsksNoClauses, Stands, fits-more, leads-fits, fits-bound, fits-first, leads-undos, upto-leads}
 use Rattle.pltransactions.proofs.Balls.{thrown-fits}
 use Rattle.pltransactions.proofs.Fitting.{PlacesFit, CasesFit, ResultFits, MoveFits, stands-begun, stands-made}
 
@@ -84,7 +84,7 @@ module _ (cs : List Case) (fit : CasesFit cs) where
   one-of true m m' h h' = h refl
   one-of false m m' h h' = h' refl
 
-  asks-first : (q : Question) (rest : List Element) (n : ℕ) (w : Local) → Fits Γ rest → Open w → ((any_open w.own ≡ false) ⊎ Halts q) → MoveFits cs (go_on (Asking q ∷ rest) n w)
+  asks-first : (q : Question) (rest : List Element) (n : ℕ) (w : Local) → Fits Γ rest → Open w → ((any_open w.own ≡ false) ⊎ AsksNoClauses q) → MoveFits cs (go_on (Asking q ∷ rest) n w)
   unfolding FitsFirst
   asks-first (Erase x) rest n w all is may = goes (Asking (Erase x) ∷ rest) n w all is
   asks-first q rest n w all is may = goes (Asking q ∷ rest) n w (may, all) is
@@ -169,7 +169,7 @@ module _ (cs : List Case) (fit : CasesFit cs) where
 
   halting-fits : (t : Tree) (rest : List Element) (n : ℕ) (w : Local) → Fits Γ rest → Open w → MoveFits cs (halting t rest n w)
   halting-fits (var x) rest n w all is = raises _ _ rest w all is
-  halting-fits (int i) rest n w all is = asks-first _ rest n w all is (inr (_, refl))
+  halting-fits (int i) rest n w all is = asks-first (Await (HaltRun (modulo_256 i)) (Ends (modulo_256 i))) rest n w all is (inr (λ of. of))
   halting-fits (atom f) rest n w all is = raises _ _ rest w all is
   halting-fits (compound f ts) rest n w all is = raises _ _ rest w all is
 

@@ -2,9 +2,9 @@
 use Rattle.std.specs.Prelude.{not, min}
 use Rattle.std.proofs.Common.{◌≡◌, ℕ, zero, suc, ◌<◌, ◌⊎◌, inl, inr, Bool, true, false, if◌then◌else◌, List, [], ◌∷◌, length, Option, Some, None, refl, sym, ap, ◌∙◌, subst, arith}
 use Rattle.plterm.specs.Tree.{Tree}
-use Rattle.plevent.specs.Search.{Item, Ask, Answer, Seen, Got}
-use Rattle.plevent.specs.declared.request.Reply.TheVariants as replies
-use Rattle.plevent.specs.declared.request.Request.TheVariants.{HaltRun, EraseOne}
+use Rattle.plevent.specs.Search.{Item, View, Ask, Answer, Seen, Got}
+use Rattle.plevent.specs.declared.request.Request.{Request}
+use Rattle.plevent.specs.declared.request.Request.TheVariants.{EraseOne}
 use Rattle.plevent.specs.declared.update.ClauseName.{ClauseName}
 use Rattle.plevent.specs.declared.update.Update.{Update}
 use Rattle.plevent.specs.declared.update.Update.TheVariants.{Erase}
@@ -13,19 +13,19 @@ use Rattle.pltx.specs.declared.level.Level.{Level}
 use Rattle.pltx.specs.declared.level.Isolation.{Isolation}
 use Rattle.pltx.specs.declared.level.Isolation.TheVariants.{Transaction, Snapshot}
 use Rattle.plprogram.specs.Program.{Program}
-use Rattle.plsearch.specs.Types.{Result, Stop, Fail, CutTo, Throw, Halted, Awaits, Stopped, Unfit, Commit, Never, Until, Collect, Transact, Ends, Question, Await, Element, Goal, Marker, Raise, Asking, Resolvent, Case, Choice, Mark, Handle, Undo, Local, Move, Give, Go, Meeting, Select, Asks, End, Pass, Marked, Return, Keep, Again, Anew, Supply}
+use Rattle.plsearch.specs.Types.{Result, Stop, Fail, CutTo, Throw, Awaits, Commit, Never, Until, Collect, Transact, Then, GoesOn, Ends, Question, Look, Begin, Await, Element, Goal, Marker, Raise, Asking, Resolvent, Case, Choice, Mark, Handle, Undo, Local, Move, Give, Go, Meeting, Select, Asks, End, Pass, Marked, Return, Keep, Again, Anew, Supply}
 use Rattle.plsearch.specs.Moves.{publishing}
-use Rattle.plsearch.specs.Rows.{select, asked, published, meet}
-use Rattle.plsearch.specs.Replies.{answered, founded}
+use Rattle.plsearch.specs.Rows.{select, asked, erasing, published, meet}
+use Rattle.plsearch.specs.Replies.{Outcome, Served, Late, Stops, Misfits, outcome, follows, answered, founded}
 use Rattle.plsearch.specs.Handlers.{resume}
 use Rattle.plsearch.specs.Engine.{out, outs, deeper, left}
 use Rattle.plsearch.specs.Search.{start_from, start_of, ending_of, search_of}
 use Rattle.plsearch.specs.Machines.Machine.{Mode, At, Back, Machine, Rest, move, step, ask, meets, visits, choose, return, backs, turn_in, turn}
 use Rattle.plsearch.specs.Machines.Weight.{weight, Lighter}
-use Rattle.pltransactions.specs.Laws.{turns, machine_of, IsReached, SearchByTurns, asked_by, asked_first, asked_in, wanted, left_of, TakesWhatItAsks, WaitsForWhatItAsks, OpenAsksNothing, IsLast, OpenAnswerEnds, its_updates, OuterEndPublishes, InnerEndAsksNothing, ends, OpenHaveEnds, UndoEndsOne, NothingLeftOpen}
+use Rattle.pltransactions.specs.Laws.{turns, machine_of, IsReached, SearchByTurns, asked_by, asked_first, asked_in, left_of, TakesWhatItAsks, WaitsForWhatItAsks, IsOfClauses, OpenAsksNoClauses, OpenAnswersStay, its_updates, OuterEndPublishes, InnerEndAsksNothing, ends, OpenHaveEnds, UndoEndsOne, NothingLeftOpen}
 use Rattle.plsearch.proofs.Turns.{Rest-turn}
 use Rattle.plsearch.proofs.Weight.{lighter-turn}
-use Rattle.pltransactions.proofs.Contexts.{Choosing, Guarding, Undoing, Entry, entry, around, undos, Fits, FitsFirst, Halts, Stands, leads-undos}
+use Rattle.pltransactions.proofs.Contexts.{Choosing, Guarding, Undoing, Entry, entry, around, undos, Fits, FitsFirst, AsksNoClauses, Stands, leads-undos}
 use Rattle.pltransactions.proofs.Balls.{named_with, named, HandlersFit}
 use Rattle.pltransactions.proofs.Fitting.{CasesFit, PlaceFits, ResultFits, ModeFits, Fitting, stands-ended}
 use Rattle.pltransactions.proofs.FittingTurns.{inner-updates, turn-fits}
@@ -180,91 +180,93 @@ waits-for-what-it-asks P m q is none = go m.mode is
     go (At p) is = first p.goals p.variables is
     go (Back r) is = absurd (nothing-asked is)
 
--- a list at which the end of the run is asked for
-record AsksToHalt (mode : Mode) (q : Item) : Type 0 where
-  number : ℕ
-  behind : Resolvent
-  at : mode ≡ At (record { goals = Asking (Await (HaltRun number) (Ends number)) ∷ behind.goals; variables = behind.variables })
-  item : q ≡ Ask (HaltRun number)
+nothing-asked : {A : Type 0} (q : Item) → ◌≡◌ {A = Option Item} None (Some q) → A
+nothing-asked q is = absurd (never is)
+  where
+    never : ◌≡◌ {A = Option Item} None (Some q) → ⊥
+    never is = cc
 
--- where something is open, nothing else is asked
-open-asks : (P : Program) (m : Machine) (q : Item) → IsReached P m → any_open m.run.local.own ≡ true → wanted m ≡ Some q → AsksToHalt m.mode q
+closed-open : (x : State) → any_open x ≡ false → any_open x ≡ true → ⊥
+closed-open x closed now = never (sym closed ∙ now)
+  where
+    never : false ≡ true → ⊥
+    never is = cc
+
+-- where something is open, the erasure of a clause is an own update, and is not asked for
+erases-none : (x : ClauseName) (w : Local) (q : Item) → any_open w.own ≡ true → asked_by (erasing x w) ≡ Some q → ⊥
+erases-none x w q now is = go (any_open w.own) (erased_in (target_at w.own.base x) w.own.updates) now is
+  where
+    go : (b c : Bool) → b ≡ true → asked_by (if not b then Asks (Ask (EraseOne x)) else (if c then End Fail w else Pass (record w { own = made (Erase x) w.own }))) ≡ Some q → ⊥
+    go true true now is = nothing-asked q is
+    go true false now is = nothing-asked q is
+    go false c now is = never now
+      where
+        never : false ≡ true → ⊥
+        never is = cc
+
+pub open-asks-no-clauses : OpenAsksNoClauses
 unfolding meet FitsFirst
-open-asks P m q reached now is = go m.mode (reached-fits P m reached).here is
+open-asks-no-clauses P m q reached now is of = go m.mode (reached-fits P m reached).here is
   where
-    nothing-asked : ◌≡◌ {A = Option Item} None (Some q) → ⊥
-    nothing-asked is = cc
+    asks : (x : Question) → ((any_open m.run.local.own ≡ false) ⊎ AsksNoClauses x) → Some (asked x) ≡ Some q → ⊥
+    asks x (inl closed) is = closed-open m.run.local.own closed now
+    asks x (inr none) is = let one : asked x ≡ q = cc in none (subst IsOfClauses (sym one) of)
 
-    asks : (x : Question) (es : List Element) (n : ℕ) → ((any_open m.run.local.own ≡ false) ⊎ Halts x) → Some (asked x) ≡ Some q → AsksToHalt (At (record { goals = Asking x ∷ es; variables = n })) q
-    asks x es n (inl closed) is = absurd (never (sym closed ∙ now))
-      where
-        never : false ≡ true → ⊥
-        never is = cc
-    asks x es n (inr (i, same)) is = record {
-      number = i;
-      behind = record { goals = es; variables = n };
-      at = ap (λ x. At (record { goals = Asking x ∷ es; variables = n })) same;
-      item = let one : asked x ≡ q = cc in sym one ∙ ap asked same;
-    }
+    first : (es : List Element) → FitsFirst (around m.cases) m.run.local.own es → asked_first es m.run.local ≡ Some q → ⊥
+    first [] fit is = nothing-asked q is
+    first (Goal k t ∷ es) fit is = nothing-asked q is
+    first (Marker Commit l ∷ es) fit is = nothing-asked q is
+    first (Marker Never l ∷ es) fit is = nothing-asked q is
+    first (Marker Until l ∷ es) fit is = nothing-asked q is
+    first (Marker (Collect t) l ∷ es) fit is = nothing-asked q is
+    first (Marker (Transact d) l ∷ es) fit is = nothing-asked q is
+    first (Raise b ∷ es) fit is = nothing-asked q is
+    first (Asking (Question.Erase x) ∷ es) fit is = erases-none x m.run.local q now is
+    first (Asking x ∷ es) fit is = asks x fit.0 is
 
-    erases : (x : ClauseName) (b c : Bool) → b ≡ true → asked_by (if not b then Asks (Ask (EraseOne x)) else (if c then End Fail m.run.local else Pass (record m.run.local { own = made (Erase x) m.run.local.own }))) ≡ Some q → ⊥
-    erases x true true open_now is = nothing-asked is
-    erases x true false open_now is = nothing-asked is
-    erases x false c open_now is = never open_now
-      where
-        never : false ≡ true → ⊥
-        never is = cc
+    go : (mode : Mode) → ModeFits m.cases m.run.local.own mode → asked_in mode m.run.local ≡ Some q → ⊥
+    go (At p) fit is = first p.goals fit.list is
+    go (Back r) fit is = nothing-asked q is
 
-    first : (es : List Element) (n : ℕ) → FitsFirst (around m.cases) m.run.local.own es → asked_first es m.run.local ≡ Some q → AsksToHalt (At (record { goals = es; variables = n })) q
-    first [] n fit is = absurd (nothing-asked is)
-    first (Goal k t ∷ es) n fit is = absurd (nothing-asked is)
-    first (Marker Commit l ∷ es) n fit is = absurd (nothing-asked is)
-    first (Marker Never l ∷ es) n fit is = absurd (nothing-asked is)
-    first (Marker Until l ∷ es) n fit is = absurd (nothing-asked is)
-    first (Marker (Collect t) l ∷ es) n fit is = absurd (nothing-asked is)
-    first (Marker (Transact d) l ∷ es) n fit is = absurd (nothing-asked is)
-    first (Raise b ∷ es) n fit is = absurd (nothing-asked is)
-    first (Asking (Question.Erase x) ∷ es) n fit is = absurd (erases x (any_open m.run.local.own) (erased_in (target_at m.run.local.own.base x) m.run.local.own.updates) now is)
-    first (Asking x ∷ es) n fit is = asks x es n fit.0 is
-
-    go : (mode : Mode) → ModeFits m.cases m.run.local.own mode → asked_in mode m.run.local ≡ Some q → AsksToHalt mode q
-    go (At p) fit is = first p.goals p.variables fit.list is
-    go (Back r) fit is = absurd (nothing-asked is)
-
-pub open-asks-nothing : OpenAsksNothing
-open-asks-nothing P m q reached now is = let halt = open-asks P m q reached now is in (halt.number, halt.item)
-
--- what is made of the answer
-halt-answered : (i : ℕ) (a : Answer) (d : ℕ) (es : List Element) (n : ℕ) (w : Local) → (r : Result) × IsLast i r × (answered (Asking (Await (HaltRun i) (Ends i))) a d es n w ≡ Give r w)
-unfolding answered
-halt-answered i (Seen g us) d es n w = (Unfit, tt, refl)
-halt-answered i (Got replies.Done) d es n w = (Halted i, refl, refl)
-halt-answered i (Got replies.Stopped) d es n w = (Stopped, tt, refl)
-halt-answered i (Got r) d es n w = (Unfit, tt, refl)
-
-pub open-answer-ends : OpenAnswerEnds
-unfolding turn meet
-open-answer-ends P m i a more reached now is some = go (open-asks P m (Ask (HaltRun i)) reached now is)
+pub open-answers-stay : OpenAnswersStay
+unfolding turn meet answered
+open-answers-stay P m q reached now is = go m.mode is
   where
-    Last : ℕ → Machine → Type 0
-    Last i x = (r : Result) × IsLast i r × (x.mode ≡ Back r) × (x.run.local ≡ m.run.local)
+    Stays : Machine → Type 0
+    Stays x = (x.run.local.own ≡ m.run.local.own) × (x.run.below ≡ m.run.below)
 
-    number : (i k : ℕ) → Ask (HaltRun i) ≡ Ask (HaltRun k) → k ≡ i
-    number i k is = cc
+    no-view : {A : Type 0} → Some View ≡ Some q → A
+    no-view is_view = let one : View ≡ q = cc in absurd (open-asks-no-clauses P m q reached now is (subst IsOfClauses one tt))
 
-    answers : (i : ℕ) (es : List Element) (n : ℕ) → Last i (ask m.cases (Asking (Await (HaltRun i) (Ends i))) es n (Ask (HaltRun i)) m.run (a ∷ more))
-    answers i es n =
-        let e = Asking (Await (HaltRun i) (Ends i)) in
-        let run = record m.run { answers = more; below = founded e a m.run.below } in
-        let end = halt-answered i a (deeper m.cases 0) es n m.run.local in
-        (end.0, end.1, ap (λ x. (move m.cases run x).mode) end.2, ap (λ x. (move m.cases run x).run.local) end.2)
+    moved : (o : Outcome) (t : Then) (es : List Element) (n : ℕ) (more : List Answer) → Stays (move m.cases (record m.run { answers = more }) (follows o t es n m.run.local))
+    moved Served GoesOn es n more = (refl, refl)
+    moved Served (Ends k) es n more = (refl, refl)
+    moved Late t es n more = (refl, refl)
+    moved Stops t es n more = (refl, refl)
+    moved Misfits t es n more = (refl, refl)
 
-    go : AsksToHalt m.mode (Ask (HaltRun i)) → Last i (turn_in P m.cases m.run m.mode)
-    go halt =
-        let e = Asking (Await (HaltRun halt.number) (Ends halt.number)) in
-        subst (λ i. Last i (turn_in P m.cases m.run m.mode)) (number i halt.number halt.item)
-        (subst (λ mode. Last halt.number (turn_in P m.cases m.run mode)) (sym halt.at)
-        (subst (λ xs. Last halt.number (ask m.cases e halt.behind.goals halt.behind.variables (Ask (HaltRun halt.number)) m.run xs)) (sym some) (answers halt.number halt.behind.goals halt.behind.variables)))
+    awaits : (r : Request) (t : Then) (es : List Element) (n : ℕ) (xs : List Answer) → Stays (ask m.cases (Asking (Await r t)) es n (Ask r) m.run xs)
+    awaits r t es n [] = (refl, refl)
+    awaits r t es n (Seen g us ∷ more) = (refl, refl)
+    awaits r t es n (Got x ∷ more) = moved (outcome r x) t es n more
+
+    first : (es : List Element) (n : ℕ) → asked_first es m.run.local ≡ Some q → Stays (visits P m.cases es n m.run)
+    first [] n is = nothing-asked q is
+    first (Goal k t ∷ es) n is = nothing-asked q is
+    first (Marker Commit l ∷ es) n is = nothing-asked q is
+    first (Marker Never l ∷ es) n is = nothing-asked q is
+    first (Marker Until l ∷ es) n is = nothing-asked q is
+    first (Marker (Collect t) l ∷ es) n is = nothing-asked q is
+    first (Marker (Transact d) l ∷ es) n is = nothing-asked q is
+    first (Raise b ∷ es) n is = nothing-asked q is
+    first (Asking (Look u) ∷ es) n is = no-view is
+    first (Asking (Begin i g) ∷ es) n is = no-view is
+    first (Asking (Await r t) ∷ es) n is = awaits r t es n m.run.answers
+    first (Asking (Question.Erase x) ∷ es) n is = absurd (erases-none x m.run.local q now is)
+
+    go : (mode : Mode) → asked_in mode m.run.local ≡ Some q → Stays (turn_in P m.cases m.run mode)
+    go (At p) is = first p.goals p.variables is
+    go (Back r) is = nothing-asked q is
 
 -- ends with success
 outer-updates : (us : List Update) (level : Level) (i : Isolation) → level.kind ≡ i → published (ending_at true us (level ∷ [])) ≡ its_updates i us
@@ -343,4 +345,4 @@ nothing-left-open P (CutTo l) run reached is = absurd (never (reached-fits P (re
 nothing-left-open P (Throw b ls) run reached is = (reached-fits P (record { mode = Back (Throw b ls); cases = []; run = run }) reached).here.open_here.none refl
 nothing-left-open P r run reached is = absurd is
 
-pub ruleset laws = (search-by-turns, takes-what-it-asks, waits-for-what-it-asks, open-asks-nothing, open-answer-ends, outer-end-publishes, inner-end-asks-nothing, open-have-ends, undo-ends-one, nothing-left-open)
+pub ruleset laws = (search-by-turns, takes-what-it-asks, waits-for-what-it-asks, open-asks-no-clauses, open-answers-stay, outer-end-publishes, inner-end-asks-nothing, open-have-ends, undo-ends-one, nothing-left-open)

@@ -1,14 +1,14 @@
 -- The laws of transactions and snapshots, over the turns of main's machine.
 use Rattle.std.specs.Prelude.{◌≡◌, ℕ, zero, suc, min, true, false, List, [], ◌∷◌, length, Option, Some, None}
 use Rattle.plevent.specs.Search.{Item, View, Ask, Answer}
-use Rattle.plevent.specs.declared.request.Request.TheVariants.{HaltRun}
+use Rattle.plevent.specs.declared.request.Request.TheVariants.{Publish, EraseOne}
 use Rattle.plevent.specs.declared.update.Update.{Update}
 use Rattle.pltx.specs.Own.{nothing, any_open, ended}
 use Rattle.pltx.specs.declared.level.Isolation.{Isolation}
 use Rattle.pltx.specs.declared.level.Isolation.TheVariants.{Transaction, Snapshot}
 use Rattle.pltx.specs.declared.level.Level.{Level}
 use Rattle.plprogram.specs.Program.{Program}
-use Rattle.plsearch.specs.Types.{Result, Stop, Fail, CutTo, Throw, Halted, Awaits, Stopped, Unfit, Kind, Transact, Element, Goal, Marker, Raise, Asking, Resolvent, Case, Choice, Mark, Handle, Undo, Local, Meeting, Asks, Supply}
+use Rattle.plsearch.specs.Types.{Result, Stop, Fail, CutTo, Throw, Awaits, Kind, Transact, Element, Goal, Marker, Raise, Asking, Resolvent, Case, Choice, Mark, Handle, Undo, Local, Meeting, Asks, Supply}
 use Rattle.plsearch.specs.Moves.{publishing}
 use Rattle.plsearch.specs.Rows.{meet}
 use Rattle.plsearch.specs.Handlers.{has}
@@ -84,21 +84,21 @@ OpensWithView = (P : Program) (m : Machine) → any_open m.run.local.own ≡ fal
 abbrev pub ClosesAtItsEnd : Type 0
 ClosesAtItsEnd = (P : Program) (m : Machine) → any_open m.run.local.own ≡ true → any_open (turn P m).run.local.own ≡ false → IsEnding m.mode m.cases
 
--- where a transaction or a snapshot is open, nothing is asked but that the run ends
-abbrev pub OpenAsksNothing : Type 0
-OpenAsksNothing = (P : Program) (m : Machine) (q : Item) → IsReached P m → any_open m.run.local.own ≡ true → wanted m ≡ Some q → (n : ℕ) × (q ≡ Ask (HaltRun n))
+-- what asks for the clauses of the database, or changes them: a view, the publication of a batch, or the erasure of one clause
+abbrev pub IsOfClauses : Item → Type 0
+IsOfClauses View = Unit {0}
+IsOfClauses (Ask (Publish us)) = Unit {0}
+IsOfClauses (Ask (EraseOne x)) = Unit {0}
+IsOfClauses (Ask q) = ⊥
 
--- the run has ended with this number, or has stopped, or was answered amiss: nothing goes on behind it, and it passes all that is open
-abbrev pub IsLast : ℕ → Result → Type 0
-IsLast n (Halted k) = k ≡ n
-IsLast n Stopped = Unit {0}
-IsLast n Unfit = Unit {0}
-IsLast n r = ⊥
+-- where a transaction or a snapshot is open, no such thing is asked
+abbrev pub OpenAsksNoClauses : Type 0
+OpenAsksNoClauses = (P : Program) (m : Machine) (q : Item) → IsReached P m → any_open m.run.local.own ≡ true → wanted m ≡ Some q → IsOfClauses q → ⊥
 
--- and the answer to that ends the search: what is open stays open
-abbrev pub OpenAnswerEnds : Type 0
-OpenAnswerEnds = (P : Program) (m : Machine) (n : ℕ) (a : Answer) (more : List Answer) → IsReached P m → any_open m.run.local.own ≡ true →
-    wanted m ≡ Some (Ask (HaltRun n)) → m.run.answers ≡ a ∷ more → (r : Result) × IsLast n r × ((turn P m).mode ≡ Back r) × ((turn P m).run.local ≡ m.run.local)
+-- and a turn that asks leaves what is open as it is, whatever it is answered: the own updates, and the batches on which it began
+abbrev pub OpenAnswersStay : Type 0
+OpenAnswersStay = (P : Program) (m : Machine) (q : Item) → IsReached P m → any_open m.run.local.own ≡ true → wanted m ≡ Some q →
+    ((turn P m).run.local.own ≡ m.run.local.own) × ((turn P m).run.below ≡ m.run.below)
 
 -- at its end with success
 abbrev pub at_end : ℕ → ℕ → Resolvent → List Case → Supply → Machine

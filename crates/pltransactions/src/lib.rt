@@ -4,7 +4,7 @@
 //! It has no code.
 #![tactic(auto)]
 
-ghost use Rattle.pltransactions.specs.Laws.{SearchByTurns, TakesWhatItAsks, WaitsForWhatItAsks, OpensWithView, ClosesAtItsEnd, OpenAsksNothing, OpenAnswerEnds, OuterEndPublishes, InnerEndAsksNothing, OpenHaveEnds, UndoEndsOne, NothingLeftOpen};
+ghost use Rattle.pltransactions.specs.Laws.{SearchByTurns, TakesWhatItAsks, WaitsForWhatItAsks, OpensWithView, ClosesAtItsEnd, OpenAsksNoClauses, OpenAnswersStay, OuterEndPublishes, InnerEndAsksNothing, OpenHaveEnds, UndoEndsOne, NothingLeftOpen};
 
 /// The turns of main's machine come to the end that the search has.
 #[tactic(auto, using(crate::proofs::Transactions::laws))]
@@ -26,11 +26,12 @@ pub fn opens_with_view()
     ensures closes { ClosesAtItsEnd }
 {}
 
-/// From the view with which it begins to its end nothing is asked, but that the run ends; and the answer to that ends the search.
+/// From the view with which it begins to its end no other view is asked for, no batch is published and no clause is erased; and what is
+/// asked besides leaves what is open as it is, whatever the answer.
 #[tactic(auto, using(crate::proofs::Transactions::laws))]
-pub fn open_asks_nothing()
-    ensures asks { OpenAsksNothing }
-    ensures ends { OpenAnswerEnds }
+pub fn open_asks_no_clauses()
+    ensures asks { OpenAsksNoClauses }
+    ensures stays { OpenAnswersStay }
 {}
 
 /// An outermost transaction that ends with success asks that its updates are published, as one batch, if it has any; a snapshot and an
