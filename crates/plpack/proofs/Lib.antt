@@ -6,3 +6,4 @@ pub mod Leading
 pub mod Following
 pub mod Wholes
 pub mod Prefixes
+pub mod Holding

@@ -3,3 +3,4 @@ pub mod Items
 pub mod Finding
 pub mod Unpacking
 pub mod Faults
+pub mod Shared

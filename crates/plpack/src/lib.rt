@@ -8,8 +8,10 @@ pub mod item;
 pub mod laws;
 pub mod packing;
 mod parts;
+pub mod shared;
 mod tag;
 pub mod unpacking;
 
 pub use packing::pack;
+pub use shared::Packed;
 pub use unpacking::{UnpackError, Unpacked, unpack};

@@ -4,3 +4,4 @@ pub mod Closing
 pub mod Adding
 pub mod Steps
 pub mod Shifting
+pub mod Whole

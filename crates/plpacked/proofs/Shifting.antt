@@ -1,4 +1,4 @@
--- A term over other variables has the same bytes.
+-- A term over other variables has the same bytes, and the same copy.
 use Rattle.std.proofs.Common.{◌≡◌, ◌==◌, ℕ, ◌+◌, Bool, true, false, cond, eqb, not, List, [], ◌∷◌, ◌++◌, length, map, refl, sym, ap, ap₂, ◌∙◌, arith}
 use Rattle.std.specs.List.{flat_map}
 use Rattle.std.proofs.lemmas.Bool.Decides.{nat_tests}
@@ -6,8 +6,8 @@ use Rattle.std.proofs.lemmas.List.{map-append, length-map}
 use Rattle.plterm.specs.declared.node.Node.{Node}
 use Rattle.plterm.specs.declared.node.Node.TheVariants.{Var, Int, Atom, Compound}
 use Rattle.plterm.specs.Tree.{Tree, Trees, var, int, atom, compound, none, more}
-use Rattle.plterm.specs.Reading.{spelling}
-use Rattle.plterm.specs.Variables.{place, added, renamed, all_renamed, rename}
+use Rattle.plterm.specs.Reading.{spelling, tree_of, tree_of-spelling}
+use Rattle.plterm.specs.Variables.{place, added, copied, renamed, all_renamed, rename}
 use Rattle.plterm.proofs.Spellings.{numbering, spelling-renamed}
 use Rattle.plsubst.specs.Subst.{bind, bind_all, shift}
 use Rattle.plpack.specs.Packing.{item, packed}
@@ -53,11 +53,16 @@ numbering-shifted n seen (Int i ∷ ns) = ap (λ (ms : List Node). Int i ∷ ms)
 numbering-shifted n seen (Atom s ∷ ns) = ap (λ (ms : List Node). Atom s ∷ ms) (numbering-shifted n seen ns)
 numbering-shifted n seen (Compound s k ∷ ns) = ap (λ (ms : List Node). Compound s k ∷ ms) (numbering-shifted n seen ns)
 
-pub packed-shifted : (n : ℕ) (t : Tree) → packed (shift n t) ≡ packed t
-packed-shifted n t =
-    ap (flat_map item)
-    (spelling-copied (shift n t)
+spelling-shifted : (n : ℕ) (t : Tree) → spelling (copied 0 (shift n t)) ≡ spelling (copied 0 t)
+spelling-shifted n t =
+    spelling-copied (shift n t)
     ∙ ap (λ (u : Tree). numbering [] (spelling u)) (shift-renames n t)
     ∙ ap (numbering []) (spelling-renamed (λ x. n + x) t)
     ∙ numbering-shifted n [] (spelling t)
-    ∙ sym (spelling-copied t))
+    ∙ sym (spelling-copied t)
+
+pub packed-shifted : (n : ℕ) (t : Tree) → packed (shift n t) ≡ packed t
+packed-shifted n t = ap (flat_map item) (spelling-shifted n t)
+
+pub copied-shifted : (n : ℕ) (t : Tree) → copied 0 (shift n t) ≡ copied 0 t
+copied-shifted n t = sym (tree_of-spelling (copied 0 (shift n t))) ∙ ap tree_of (spelling-shifted n t) ∙ tree_of-spelling (copied 0 t)

@@ -20,3 +20,12 @@ pub record PutsPacked (old new : Store) (bytes : List ℕ) (n : ℕ) (put : Put)
   pub preserves : Preserves old new
   pub fresh : (m : ℕ) → IsFresh old m → (n ≤ m → m < n + put.variables → ⊥) → IsFresh new m
   pub frees : frees new.cells ≡ frees old.cells + put.variables
+
+-- a packed term was put, over new variables of the numbers from n on
+pub record PutsWhole (old new : Store) (t : Tree) (n : ℕ) (put : Put) : Type 0 where
+  pub count : put.variables ≡ length (variables t)
+  pub fits : IsValue new put.value
+  pub is : value new put.value ≡ shift n t
+  pub preserves : Preserves old new
+  pub fresh : (m : ℕ) → IsFresh old m → (n ≤ m → m < n + put.variables → ⊥) → IsFresh new m
+  pub frees : frees new.cells ≡ frees old.cells + put.variables

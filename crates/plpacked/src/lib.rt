@@ -8,5 +8,5 @@ pub mod putting;
 pub mod taking;
 mod unfinished;
 
-pub use putting::{Put, put_packed};
+pub use putting::{Put, put_bytes, put_packed};
 pub use taking::take_packed;

@@ -1,16 +1,18 @@
 //! Packed bytes to values.
 ghost use Rattle.std.specs.Prelude.{◌≡◌, ◌≤◌, ℕ, take, IfErr, IfOk, OnErr};
+ghost use Rattle.plterm.specs.Variables.{copied};
 ghost use Rattle.plpack.specs.Packing.{packed};
 ghost use Rattle.plpack.specs.Faults.{Tells, TellsNone};
 ghost use Rattle.plcells.specs.Store.{renamed, value, IsFresh, Keeps, Preserves};
-ghost use Rattle.plpacked.specs.Putting.{PutsPacked};
+ghost use Rattle.plpacked.specs.Putting.{PutsPacked, PutsWhole};
 
 use crate::unfinished::{Stage, Unfinished};
 use plcells::cell::Cell;
 use plcells::heap::Heap;
 use plpack::item::next_item;
+use plpack::shared::Packed;
 use plpack::unpacking::UnpackError;
-use std::alloc::Global;
+use std::alloc::{AllocError, Global};
 
 /// A packed term that was put: its value, how many of the bytes are its own, and how many variables it has.
 #[derive(Clone, Copy)]
@@ -58,7 +60,7 @@ fn put_all(alloc: Global, heap: &mut Heap, bytes: &[u8], number: u64) -> Result<
 /// Puts the term whose bytes begin the bytes, as `unpack` reads it, over new variables with the numbers from one on, by first occurrence, in
 /// time linear in its bytes. After an `Err` there may be more names, and nothing else. Where the numbers of its variables would pass 64 bits,
 /// it is told as want of memory.
-pub fn put_packed(
+pub fn put_bytes(
     alloc: Global,
     heap: &mut Heap,
     bytes: &[u8],
@@ -88,5 +90,29 @@ pub fn put_packed(
             heap.cut_back(mark, boundary);
             Err(e)
         }
+    }
+}
+
+/// Puts a packed term over new variables with the numbers from one on, by first occurrence, in time linear in its bytes. After an `Err`
+/// there may be more names, and nothing else. Where the numbers of its variables would pass 64 bits, it is told as want of memory.
+pub fn put_packed(
+    alloc: Global,
+    heap: &mut Heap,
+    term: &Packed,
+    number: u64,
+) -> Result<Put, AllocError>
+    requires fresh { (n : ℕ) → number ≤ n → IsFresh heap.old n }
+    ensures ok { IfOk result (λ put. PutsWhole heap.old heap.new term.now number put) }
+    ensures preserves { Preserves heap.old heap.new }
+    ensures boundary { heap.new.boundary ≡ heap.old.boundary }
+
+    // Taken again it is the same packed term.
+    ensures again { IfOk result (λ put. copied 0 (value heap.new put.value) ≡ term.now) }
+    ensures err { OnErr result (heap.new ≡ renamed heap.old heap.new.names) }
+{
+    match put_bytes(alloc, heap, term.bytes(), number) {
+        Ok(put) => Ok(put),
+        Err(UnpackError::NoMemory) => Err(AllocError),
+        Err(UnpackError::BadPack(_)) => unreachable!(),
     }
 }

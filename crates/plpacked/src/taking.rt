@@ -1,5 +1,6 @@
 //! Values to packed bytes.
 ghost use Rattle.std.specs.Prelude.{◌≡◌, IfOk, OnOk};
+ghost use Rattle.plterm.specs.Variables.{copied};
 ghost use Rattle.plpack.specs.Packing.{packed, IsPackable};
 ghost use Rattle.plcells.specs.Store.{value, IsValue};
 ghost use Rattle.plpacked.specs.Taking.{IsWritten};
@@ -9,6 +10,7 @@ use plcells::heap::Heap;
 use plcells::id::CellId;
 use plcells::take::push_run;
 use plpack::packing::{put_atom, put_compound, put_integer, put_variable};
+use plpack::shared::Packed;
 use plterm::numbers::Numbers;
 use std::alloc::{AllocError, Global};
 
@@ -37,8 +39,8 @@ fn write_value(
     Ok(())
 }
 
-/// The bytes of the term of a value, in time linear in its nodes. Parts that are shared on the heap are written out each time.
-pub fn take_packed(alloc: Global, heap: &Heap, v: Cell) -> Result<Vec<u8>, AllocError>
+/// The bytes of the term of a value.
+fn bytes_of(alloc: Global, heap: &Heap, v: Cell) -> Result<Vec<u8>, AllocError>
     requires { IsValue heap.now v }
     ensures bytes { IfOk result (λ bytes. bytes.items ≡ packed (value heap.now v)) }
     ensures limits { OnOk result (IsPackable (value heap.now v)) }
@@ -51,4 +53,12 @@ pub fn take_packed(alloc: Global, heap: &Heap, v: Cell) -> Result<Vec<u8>, Alloc
         write_value(heap, &mut out, &mut seen, &mut stack, heap.argument(c))?;
     }
     Ok(out)
+}
+
+/// A copy of the term of a value, in time linear in its nodes. Parts that are shared on the heap are written out each time.
+pub fn take_packed(alloc: Global, heap: &Heap, v: Cell) -> Result<Packed, AllocError>
+    requires { IsValue heap.now v }
+    ensures { IfOk result (λ p. p ≡ copied 0 (value heap.now v)) }
+{
+    Packed::of_bytes(bytes_of(alloc, heap, v)?)
 }

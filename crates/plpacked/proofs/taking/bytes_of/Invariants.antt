@@ -2,7 +2,7 @@ use Rattle.plpack.proofs.Numberings.{Packs}
 use Rattle.plcells.specs.Store.{value}
 use Rattle.plcells.specs.Walking.{AreArguments}
 use Rattle.plcells.proofs.Taking.{left_terms, weigh_left}
-use Rattle.plpacked.proofs.taking.take_packed.Given as goal
+use Rattle.plpacked.proofs.taking.bytes_of.Given as goal
 
 abbrev pub invariant-loop-c : goal.invariant-loop-c
 invariant-loop-c l = record {

@@ -1,0 +1,4 @@
+pub mod Instances
+pub mod Matches
+pub mod Bare
+mod Worked
