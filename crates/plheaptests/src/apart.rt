@@ -1,7 +1,9 @@
 //! Terms that are seen to be apart from a value.
+ghost use Rattle.std.specs.Prelude.{◌≡◌, []};
+
+use crate::made::{empty, goal_of, put_text};
 use plbind::apart::{are_apart, is_apart};
-use plenv::env::Environment;
-use plmade::made::{empty, goal_of, put_text};
+use plcells::heap::Heap;
 use std::alloc::Global;
 use std::fmt::Write;
 use std::string::String;
@@ -42,22 +44,19 @@ const APART: [&[Row]; 3] = [
 ];
 
 /// Whether the arguments of the value of a text that is put and of the term of another one are seen to be apart, and whether the two are.
-fn apart_in(
-    env: &mut Environment,
-    alloc: Global,
-    value: &str,
-    text: &str,
-) -> Result<(bool, bool), Fail> {
-    let v = put_text(env, alloc, value)?;
+fn apart_in(heap: &mut Heap, alloc: Global, value: &str, text: &str) -> Result<(bool, bool), Fail>
+    requires { heap.old.cells ≡ [] }
+{
+    let v = put_text(heap, alloc, value)?;
     let term = goal_of(alloc, text)?;
-    let whole = is_apart(env.heap(), &v, &term.root());
-    Ok((are_apart(env.heap(), v, &term.root()), whole))
+    let whole = is_apart(heap, &v, &term.root());
+    Ok((are_apart(heap, v, &term.root()), whole))
 }
 
 /// Whether the arguments of the value of a text and of the term of another one are seen to be apart, and whether the two are.
 fn apart(alloc: Global, value: &str, text: &str) -> Result<(bool, bool), Fail> {
-    let mut env = empty(alloc);
-    apart_in(&mut env, alloc, value, text)
+    let mut heap = empty(alloc);
+    apart_in(&mut heap, alloc, value, text)
 }
 
 /// Adds the rows that are wrong.

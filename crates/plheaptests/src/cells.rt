@@ -4,13 +4,12 @@ ghost use Rattle.plterm.specs.Reading.{IsName};
 ghost use Rattle.plcells.specs.declared.cell.Cell.TheVariants.{Ref as RefCell, Str as StrCell};
 ghost use Rattle.plcells.specs.Store.{IsFresh, IsValue};
 
-use crate::rows::show;
+use crate::made::{name, show};
 use platoms::names::Names;
 use plcells::cell::{Argument, Cell};
 use plcells::heap::Heap;
 use plcells::id::CellId;
 use plcells::take::push_run;
-use plmade::made::name;
 use plterm::name::Name;
 use std::alloc::{AllocError, Global};
 use std::fmt::Write;

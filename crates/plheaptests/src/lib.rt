@@ -1,4 +1,4 @@
-//! Tests of terms on the machine's heap: cells, unification, choices, goals, the order of terms, and lists.
+//! Tests of terms on the machine's heap: cells, unification, what is seen to be apart, and values as packed bytes.
 #![tactic(auto)]
 
 #[cfg(test)]
@@ -6,22 +6,10 @@ mod apart;
 #[cfg(test)]
 mod cells;
 #[cfg(test)]
-mod choices;
+mod made;
 #[cfg(test)]
-mod goals;
-#[cfg(test)]
-mod lists;
-#[cfg(test)]
-mod nodes;
+mod packs;
 #[cfg(test)]
 mod pairs;
 #[cfg(test)]
 mod plain;
-#[cfg(test)]
-mod rows;
-#[cfg(test)]
-mod shapes;
-#[cfg(test)]
-mod terms;
-#[cfg(test)]
-mod unification;

@@ -1,17 +1,19 @@
 //! Unification as it is defined, on the nodes of terms in prefix order, beside the machine's: where two terms first differ from the left, a
 //! variable stands for the term on the other side, in both of them, until they are the same.
-ghost use Rattle.plcells.specs.Store.{AreValues};
+ghost use Rattle.std.specs.Prelude.{◌≡◌, [], OnOk};
+ghost use Rattle.plcells.specs.Store.{AreValues, IsValue};
+ghost use Rattle.plcells.specs.declared.cell.Cell.{Cell as OfCell};
 
-use crate::nodes::take;
+use crate::made::{empty, goal_of, put_arguments, show};
 use crate::pairs::PAIRS;
-use crate::rows::{Asked, put_other, show};
+use plbind::unify::{Scratch, unify as unify_values};
 use plcells::cell::Cell;
-use plenv::env::Environment;
-use plmade::made::{goal_of, put_arguments};
+use plcells::heap::Heap;
 use plterm::node::Node;
 use plterm::term::Term;
 use plterm::walk::Shape;
 use std::alloc::{AllocError, Global};
+use std::fmt::Write;
 use std::string::String;
 use std::test::Fail;
 
@@ -202,60 +204,98 @@ fn is_plain(alloc: Global, text: &str, made: &[Node]) -> Result<bool, Fail> {
     Ok(are_same(made, &plain))
 }
 
+/// Puts the nodes of a value's term behind others.
+fn take(alloc: Global, heap: &Heap, v: Cell, nodes: &mut Vec<Node>) -> Result<(), AllocError>
+    requires { IsValue heap.now v }
+{
+    let mut stack = Vec::new(alloc);
+    heap.take_nodes(nodes, &mut stack, v)
+}
+
+/// Whether two values have a unifier, by which they are then one. Values stay values.
+fn unified(heap: &mut Heap, alloc: Global, left: Cell, right: Cell) -> Result<bool, Fail>
+    requires left { IsValue heap.old left }
+    requires right { IsValue heap.old right }
+    ensures { OnOk result ((v : OfCell) → IsValue heap.old v → IsValue heap.new v) }
+{
+    let mut scratch = Scratch::new(alloc);
+    Ok(unify_values(heap, &mut scratch, left, right)?)
+}
+
 /// Adds the text and the nodes of the left one of two arguments, once they are unified by the machine; `no`, and no node, where they have no
 /// unifier.
 fn put_made(
-    env: &mut Environment,
+    heap: &mut Heap,
     alloc: Global,
     args: &[Cell],
     made: &mut Vec<Node>,
     told: &mut String,
 ) -> Result<(), Fail>
-    requires { AreValues env.old.heap args.now }
+    requires { AreValues heap.old args.now }
 {
     let [left, right] = args else {
         return Err("no two sides".into());
     };
-    if !env.unify(*left, *right)? {
+    if !unified(heap, alloc, *left, *right)? {
         return Ok(told.push_str("no")?);
     }
-    show(alloc, env.heap(), *left, told)?;
-    Ok(take(alloc, env.heap(), *left, made)?)
+    show(alloc, heap, *left, told)?;
+    Ok(take(alloc, heap, *left, made)?)
 }
 
-/// The same of the goal of a text that is put.
+/// The same of the goal of a text that is put on a heap with nothing on it.
 fn put_machine(
-    env: &mut Environment,
+    heap: &mut Heap,
     alloc: Global,
     text: &str,
     made: &mut Vec<Node>,
     told: &mut String,
-) -> Result<(), Fail> {
-    let args = put_arguments(env, alloc, text)?;
-    put_made(env, alloc, &args, made, told)
+) -> Result<(), Fail>
+    requires { heap.old.cells ≡ [] }
+{
+    let args = put_arguments(heap, alloc, text)?;
+    put_made(heap, alloc, &args, made, told)
 }
 
 /// What the left side of a goal is by the machine, once the sides are unified, and whether it is anything else by definition.
-pub(crate) fn pair(
-    env: &mut Environment,
-    alloc: Global,
-    goal: &str,
-    told: &mut String,
-) -> Result<(), Fail> {
+fn pair(heap: &mut Heap, alloc: Global, goal: &str, told: &mut String) -> Result<(), Fail>
+    requires { heap.old.cells ≡ [] }
+{
     let mut made = Vec::new(alloc);
-    put_machine(env, alloc, goal, &mut made, told)?;
+    put_machine(heap, alloc, goal, &mut made, told)?;
     if !is_plain(alloc, goal, &made)? {
         told.push_str(", and otherwise by definition")?;
     }
     Ok(())
 }
 
+/// The same on a heap of its own.
+fn pair_alone(alloc: Global, goal: &str, told: &mut String) -> Result<(), Fail> {
+    let mut heap = empty(alloc);
+    pair(&mut heap, alloc, goal, told)
+}
+
+/// Adds what is told of a goal, where it is not what is wanted.
+fn put_unlike(others: &mut String, goal: &str, found: &str, wanted: &str) -> Result<(), Fail> {
+    if found != wanted {
+        write!(others, "{goal}: {found} in place of {wanted}, ")?;
+    }
+    Ok(())
+}
+
+/// Adds what the sides of a goal come to otherwise than is wanted, or otherwise by definition.
+fn put_other(alloc: Global, goal: &str, wanted: &str, others: &mut String) -> Result<(), Fail> {
+    let mut found = String::new(alloc);
+    pair_alone(alloc, goal, &mut found)?;
+    put_unlike(others, goal, found.as_str(), wanted)
+}
+
 /// Adds what the pair of a line comes to otherwise than it says, or otherwise by definition.
 fn put_pair(alloc: Global, line: &str, others: &mut String) -> Result<(), Fail> {
-    let Some(row) = line.split_once(": ") else {
+    let Some((goal, wanted)) = line.split_once(": ") else {
         return Err("no pair".into());
     };
-    put_other(alloc, Asked::Pair, row, others)
+    put_other(alloc, goal, wanted, others)
 }
 
 /// The same of all pairs.

@@ -6,6 +6,8 @@ mod lists;
 #[cfg(test)]
 mod looks;
 #[cfg(test)]
+mod made;
+#[cfg(test)]
 mod numbers;
 #[cfg(test)]
 mod reading;

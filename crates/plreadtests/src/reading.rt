@@ -1,4 +1,5 @@
 //! Terms from tokens (plread).
+use crate::made::shape;
 use pllex::clause::clause_tokens;
 use plops::flag::Quotes;
 use plops::table::OpTable;
@@ -8,7 +9,6 @@ use plread::input::Input;
 use plread::read::read_clause;
 use plread::token::Token;
 use plread::words::Words;
-use plreadmade::made::shape;
 use plterm::name::Name;
 use plterm::term::Term;
 use std::alloc::{AllocError, Global};

@@ -1,6 +1,6 @@
 //! The text of terms, and that it is read back (plwrite, plread).
+use crate::made::term_of;
 use plops::table::OpTable;
-use plreadmade::made::term_of;
 use plterm::term::Term;
 use plwrite::style::Style;
 use plwrite::write::{write_clause, write_term};

@@ -1,11 +1,13 @@
-//! Tests of the journal and of what a run leaves, and of packed values, from the public calls of each crate.
+//! Tests of what a run leaves, from the public calls of plhist, plrun and plcommand: reports and statuses, journals, faults, and depth.
 #![tactic(auto)]
 
 #[cfg(test)]
-mod events;
+mod command;
+#[cfg(test)]
+mod depth;
+#[cfg(test)]
+mod faults;
 #[cfg(test)]
 mod histories;
 #[cfg(test)]
-mod values;
-#[cfg(test)]
-mod worlds;
+mod schedules;

@@ -2,7 +2,7 @@
 ghost use Rattle.std.specs.Prelude.{OnOk};
 ghost use Rattle.pltx.specs.Own.{IsOpen};
 
-use plclausemade::made::{clause, indicator};
+use crate::made::{clause, indicator};
 use plevent::{JournalPlace, Key, Update};
 use plterm::error::TermError;
 use plterm::indicator::Indicator;
@@ -31,7 +31,7 @@ fn add_last(alloc: Global, own: &mut Own, body: &str) -> Result<(), TermError>
 }
 
 /// Begins a transaction with two clauses of p/0 in front, and one behind all others.
-pub fn make_three(alloc: Global, own: &mut Own) -> Result<(), TermError>
+pub(crate) fn make_three(alloc: Global, own: &mut Own) -> Result<(), TermError>
     ensures { OnOk result (IsOpen own.new) }
 {
     own.begin(Isolation::Transaction, JournalPlace::new(9))?;

@@ -1,7 +1,7 @@
 //! Look-ups in views of the journal and of own updates (plviews).
+use crate::made::indicator;
 use crate::owns::make_three;
 use crate::stores::one_batch;
-use plclausemade::made::indicator;
 use plevent::{ClauseName, JournalPlace, Key};
 use plstore::Store;
 use plterm::error::TermError;

@@ -1,5 +1,0 @@
-use Rattle.plcells.specs.Store.{AreValues}
-use Rattle.plpredicatetests.proofs.made.arguments.Given as goal
-
-abbrev pub invariant-loop-i : goal.invariant-loop-i
-invariant-loop-i l = AreValues l.heap l.args.items

@@ -1,2 +1,0 @@
-mod Markers
-mod Handlers
