@@ -8,7 +8,7 @@ use Rattle.plload.specs.Loading.{Loads, Accepts, Refuses}
 use Rattle.plload.specs.Listing.{Lists}
 use Rattle.plload.specs.declared.error.RefusalKind.{RefusalKind}
 use Rattle.pllibrary.specs.Library.{HasLibrary}
-use Rattle.plsearch.specs.Search.{search_of}
+use Rattle.plsearch.specs.Starts.{searches}
 use Rattle.plhist.specs.declared.history.History.{History}
 use Rattle.plhist.specs.declared.status.Status.{Status}
 use Rattle.plhist.specs.Legal.{Legal, ByOneWorker, Over}
@@ -36,7 +36,7 @@ pub record IsRunOf (program : Program) (steps : ℕ) (h : History) : Type 0 wher
   pub workers : ByOneWorker h.journal
   pub over : Over h.journal
   pub each : OneEach h.journal h.runs
-  pub follow : AllFollow (λ thread. search_of program steps) steps h.journal h.runs
+  pub follow : AllFollow (searches program steps h.journal) steps h.journal h.runs
 
 -- the line that `check` writes
 abbrev pub check_text : Program → List ℕ

@@ -242,6 +242,22 @@ fn write_output<K: Sink>(out: &mut K, output: &Result<Vec<u8>, AllocError>, whol
     }
 }
 
+/// Writes the output of an answer. What the answer tells of a run is told, also where memory or the output gives out.
+fn write_report<K: Sink>(out: &mut K, answer: Answer) -> Report
+    ensures wrote { (text : List ℕ) → IfOk answer.output (λ o. o.items ≡ text) → Wrote (K.holds out.old) (K.holds out.new) (K.faults out.old) (K.faults out.new) text answer.status result.status }
+    ensures history { result.history ≡ answer.history }
+{
+    let Answer {
+        output,
+        status,
+        history,
+    } = answer;
+    Report {
+        status: write_output(out, &output, status),
+        history,
+    }
+}
+
 /// The form and the text that it is asked for; or the status of what was in the way.
 fn answer_for<S: Source>(alloc: Global, form: Form<Term>, source: &mut S) -> Result<Answer, Status>
     ensures answer { IfOk result (λ a. (text : List ℕ) × Gave (S.left source.old) (S.left source.new) text × IsOutcome text form a) }
@@ -282,7 +298,8 @@ pub fn prolog_command<R: Threads + Wait + Sync, S: Source, T: Source, K: Sink, G
     ensures silent { IsUnread result.status → out.new ≡ out.old }
 
     // A history is one legal journal of a run that is over, and for each thread one run, which follows its search: with the
-    // steps and the goal of the words.
+    // steps and the goal of the words. None is told where no text was read.
+    ensures unread_history { IsUnread result.status → IsNone result.history }
     ensures history { IfSome result.history (HasRun words.now (S.left program.old) (S.left program.new)) }
 
     // 0, 1, 2, 4 and 65: the form's output is written whole, and the status is that of the run or of the refusal.
@@ -313,17 +330,7 @@ pub fn prolog_command<R: Threads + Wait + Sync, S: Source, T: Source, K: Sink, G
         }
     };
     match answer_for(alloc, form, program) {
-        Ok(answer) => {
-            let Answer {
-                output,
-                status,
-                history,
-            } = answer;
-            Report {
-                status: write_output(out, &output, status),
-                history,
-            }
-        }
+        Ok(answer) => write_report(out, answer),
         Err(status) => Report {
             status,
             history: None,

@@ -142,7 +142,7 @@ IsTold uses.Tell t = clause_term (head_told t) (body_told t) ≡ t
 IsTold uses.Erase t = clause_term (head_told t) (body_told t) ≡ t
 
 abbrev pub local_of : Reached → Local
-local_of s = record { out = s.out.items; settings = s.settings; kept = s.kept; own = s.layer.own }
+local_of s = record { who = record { number = s.thread; alias = s.alias }; out = s.out.items; settings = s.settings; kept = s.kept; own = s.layer.own }
 
 -- the updates below the place at which the outermost transaction or snapshot began last
 abbrev pub below_at : Views → Option ℕ → List Stamped

@@ -3,11 +3,12 @@
 use plcells::cell::Cell;
 use plcollect::collection::Collection;
 use plevent::request::Request;
-use plevent::{ClauseName, Update};
+use plevent::{ClauseName, ThreadId, Update};
 use pllinks::level::Level;
 use plprogram::settings::Settings;
 use plstack::frame::Use;
 use plstack::stack::Stack;
+use plterm::name::Name;
 use plterm::term::Term;
 use pltx::Isolation;
 use plviews::{Layer, Reach, View};
@@ -113,6 +114,9 @@ pub enum Mode {
 #[derive(Drop)]
 pub struct Machine {
     pub alloc: Global,
+    /// The thread whose search it does, and its alias, if it has one.
+    pub thread: ThreadId,
+    pub alias: Option<Name>,
     pub stack: Stack,
     /// The own updates of its open transactions.
     pub layer: Layer,

@@ -4,4 +4,5 @@ pub mod Rows
 pub mod Steps
 pub mod Ends
 pub mod Serve
+pub mod Settled
 pub mod Start

@@ -24,7 +24,6 @@ use Rattle.plhist.proofs.Alone.{main-alone}
 use Rattle.plhist.proofs.OneMore.{reading-push, halted-push}
 use Rattle.plworld.proofs.Push.{before-is}
 use Rattle.plprogram.specs.Program.{Program}
-use Rattle.plsearch.specs.Search.{search_of}
 use Rattle.plsearch.specs.Solving.{TakesOne, StandsAt, EndsAt}
 use Rattle.plsolver.specs.Solver.{IsReplyTo}
 use Rattle.plstore.specs.Looking.{Views}
@@ -290,17 +289,17 @@ finished first search limit rest used out h h' t places e run sooner (Halts n x)
     same_end e n is = cc
 
 -- the same for another name of the limit
-pub relimit : (P : Program) (m n : ℕ) (rest : Views → Search) (used : ℕ) (h : List Entry) (t : ℕ) (places : List ℕ) → n ≡ m → IsRunning P.first (search_of P m) m rest used h t places → IsRunning P.first (search_of P n) n rest used h t places
-relimit P m n rest used h t places is r = subst (λ k. IsRunning P.first (search_of P k) k rest used h t places) (sym is) r
+pub relimit : (first : List Update) (search : ℕ → Search) (m n : ℕ) (rest : Views → Search) (used : ℕ) (h : List Entry) (t : ℕ) (places : List ℕ) → n ≡ m → IsRunning first (search m) m rest used h t places → IsRunning first (search n) n rest used h t places
+relimit first search m n rest used h t places is r = subst (λ k. IsRunning first (search k) k rest used h t places) (sym is) r
 
 -- the solver went on, by its limit
-pub gone : (P : Program) (m n : ℕ) (old new : Views → Search) (before_used used : ℕ) (h : List Entry) (t : ℕ) (places later : List ℕ) →
-    IsRunning P.first (search_of P m) m old before_used h t places → GoesAt h m old before_used new used → later ≡ places → n ≡ m → IsRunning P.first (search_of P n) n new used h t later
-gone P m n old new before_used used h t places later r goes same is = relimit P m n new used h t later is (went P.first (search_of P m) m old new before_used used h t places later r goes same)
+pub gone : (first : List Update) (search : ℕ → Search) (m n : ℕ) (old new : Views → Search) (before_used used : ℕ) (h : List Entry) (t : ℕ) (places later : List ℕ) →
+    IsRunning first (search m) m old before_used h t places → GoesAt h m old before_used new used → later ≡ places → n ≡ m → IsRunning first (search n) n new used h t later
+gone first search m n old new before_used used h t places later r goes same is = relimit first search m n new used h t later is (went first (search m) m old new before_used used h t places later r goes same)
 
 -- the same for another name of the limit
-pub started-same : (P : Program) (m n : ℕ) (rest : Views → Search) (used : ℕ) (h : List Entry) (t : ℕ) (places : List ℕ) → n ≡ m → IsStarted P.first (search_of P m) m rest used h t places → IsStarted P.first (search_of P n) n rest used h t places
-started-same P m n rest used h t places is r = subst (λ k. IsStarted P.first (search_of P k) k rest used h t places) (sym is) r
+pub started-same : (first : List Update) (search : ℕ → Search) (m n : ℕ) (rest : Views → Search) (used : ℕ) (h : List Entry) (t : ℕ) (places : List ℕ) → n ≡ m → IsStarted first (search m) m rest used h t places → IsStarted first (search n) n rest used h t places
+started-same first search m n rest used h t places is r = subst (λ k. IsStarted first (search k) k rest used h t places) (sym is) r
 
 -- one that has ended the run stays so
 halted_gone : (first : List Update) (search : Search) (limit : ℕ) (old new : Views → Search) (before_used used : ℕ) (h : List Entry) (t : ℕ) (places : List ℕ) (k : ℕ) →
@@ -318,12 +317,12 @@ halted_gone first search limit old new before_used used h t places k x goes =
     }
 
 -- the solver of a thread that was started went on
-pub started-gone : (P : Program) (m n : ℕ) (old new : Views → Search) (before_used used : ℕ) (h : List Entry) (t : ℕ) (places later : List ℕ) →
-    IsStarted P.first (search_of P m) m old before_used h t places → GoesAt h m old before_used new used → later ≡ places → n ≡ m → IsStarted P.first (search_of P n) n new used h t later
-started-gone P m n old new before_used used h t places later (Runs r) goes same is = Runs (gone P m n old new before_used used h t places later r goes same is)
-started-gone P m n old new before_used used h t places later (Halts k x) goes same is =
-    subst (λ j. IsStarted P.first (search_of P j) j new used h t later) (sym is)
-    (subst (IsStarted P.first (search_of P m) m new used h t) (sym same) (Halts k (halted_gone P.first (search_of P m) m old new before_used used h t places k x goes)))
+pub started-gone : (first : List Update) (search : ℕ → Search) (m n : ℕ) (old new : Views → Search) (before_used used : ℕ) (h : List Entry) (t : ℕ) (places later : List ℕ) →
+    IsStarted first (search m) m old before_used h t places → GoesAt h m old before_used new used → later ≡ places → n ≡ m → IsStarted first (search n) n new used h t later
+started-gone first search m n old new before_used used h t places later (Runs r) goes same is = Runs (gone first search m n old new before_used used h t places later r goes same is)
+started-gone first search m n old new before_used used h t places later (Halts k x) goes same is =
+    subst (λ j. IsStarted first (search j) j new used h t later) (sym is)
+    (subst (IsStarted first (search m) m new used h t) (sym same) (Halts k (halted_gone first (search m) m old new before_used used h t places k x goes)))
 
 pub used-within : (first : List Update) (search : Search) (limit : ℕ) (rest : Views → Search) (used : ℕ) (h : List Entry) (t : ℕ) (places : List ℕ) → IsStarted first search limit rest used h t places → used ≤ limit
 used-within first search limit rest used h t places (Runs r) = r.going.within

@@ -18,7 +18,11 @@ use Rattle.plhist.specs.declared.history.Run.{Run}
 use Rattle.plhist.specs.Follows.{own, takes, from_start}
 use Rattle.plhist.specs.Legal.{opening, Over}
 use Rattle.plhist.proofs.Alone.{main-alone}
+use Rattle.plprogram.specs.Program.{Program}
+use Rattle.plsearch.specs.Search.{Start, main_start, start_with}
 use Rattle.plsearch.specs.Solving.{Begins}
+use Rattle.plsearch.specs.Starts.{start_in}
+use Rattle.plsearch.proofs.Starts.{main-starts}
 use Rattle.plstore.specs.Looking.{Views}
 use Rattle.plrun.specs.Going.{IsRunning}
 use Rattle.plrun.specs.Overall.{IsHistory}
@@ -26,9 +30,9 @@ use Rattle.plrun.proofs.Grow.{one-worker}
 use Rattle.plrun.proofs.Rows.{start-due, start-served}
 
 -- nothing has run yet, or all has
-pub data Stage (first : List Update) (searches : ℕ → Search) (limit : ℕ) (h : List Entry) (runs : List Run) : Type 0 where
+pub data Stage (first : List Update) (searches : List Entry → ℕ → Search) (limit : ℕ) (h : List Entry) (runs : List Run) : Type 0 where
   Before : h ≡ opening first ∷ [] → runs ≡ [] → Stage first searches limit h runs
-  Behind : IsHistory first searches limit h runs → Stage first searches limit h runs
+  Behind : IsHistory first (searches h) limit h runs → Stage first searches limit h runs
 
 first_row : (first : List Update) → served Request.Start 0 (reading (opening first ∷ [])) ≡ (Reply.Started 1 (Some main) None, Some (1, Act.Start))
 unfolding served reading
@@ -107,6 +111,19 @@ begun first search limit rest used h h' reply n a g (inl opens) tells grows is b
 begun first search limit rest used h h' reply n a g (inr over) tells grows is begins =
     let all = over_served h over in absurd (all.never n a g (sym (ap (λ x. x.0) all.row) ∙ sym tells ∙ is))
 
+-- what the reply says of where the thread starts
+start_told : Program → Reply → Start
+start_told P (Reply.Started n a g) = start_with P (record { number = n; alias = a }) g
+start_told P r = main_start P
+
+-- and it starts there
+pub begun-there : (P : Program) (h h' : List Entry) (reply : Reply) (n : ℕ) (a : Option (List ℕ)) (g : Option Tree) →
+    h ≡ opening P.first ∷ [] → reply ≡ reply_to h 0 Request.Start → reply ≡ Reply.Started n a g → start_with P (record { number = n; alias = a }) g ≡ start_in P h' n
+unfolding number_of start_told
+begun-there P h h' reply n a g opens tells is =
+    let said : Reply.Started n a g ≡ Reply.Started 1 (Some main) None = sym is ∙ tells ∙ ap (λ x. x.0) (ap (λ l. served Request.Start 0 (reading l)) opens ∙ first_row P.first) in
+    ap (start_told P) said ∙ sym (main-starts P h') ∙ ap (start_in P h') (sym (ap number_of said))
+
 -- Start was answered otherwise: the run is over
 pub not_begun : (first : List Update) (h h' : List Entry) (reply : Reply) →
     (h ≡ opening first ∷ []) ⊎ Over h → reply ≡ reply_to h 0 Request.Start → h' ≡ h ++ adds h 1 0 Request.Start → ((n : ℕ) (a : Option (List ℕ)) (g : Option Tree) → reply ≡ Reply.Started n a g → ⊥) →
@@ -120,18 +137,18 @@ unfolding reading
 first_goes_on first over = true≢false (sym over)
 
 -- what may be started, by the stage
-pub stage-starts : (first : List Update) (searches : ℕ → Search) (limit : ℕ) (h : List Entry) (runs : List Run) → Stage first searches limit h runs → (h ≡ opening first ∷ []) ⊎ Over h
+pub stage-starts : (first : List Update) (searches : List Entry → ℕ → Search) (limit : ℕ) (h : List Entry) (runs : List Run) → Stage first searches limit h runs → (h ≡ opening first ∷ []) ⊎ Over h
 stage-starts first searches limit h runs (Before opens none) = inl opens
 stage-starts first searches limit h runs (Behind all) = inr all.over
 
-pub stage-first : (first : List Update) (searches : ℕ → Search) (limit : ℕ) (h : List Entry) (runs : List Run) → Stage first searches limit h runs → h ≡ opening first ∷ [] → runs ≡ []
+pub stage-first : (first : List Update) (searches : List Entry → ℕ → Search) (limit : ℕ) (h : List Entry) (runs : List Run) → Stage first searches limit h runs → h ≡ opening first ∷ [] → runs ≡ []
 stage-first first searches limit h runs (Before opens none) is = none
 stage-first first searches limit h runs (Behind all) is = absurd (first_goes_on first (subst Over is all.over))
 
-pub stage-over : (first : List Update) (searches : ℕ → Search) (limit : ℕ) (h h' : List Entry) (runs : List Run) → Stage first searches limit h runs → Over h → h' ≡ h → IsHistory first searches limit h' runs
+pub stage-over : (first : List Update) (searches : List Entry → ℕ → Search) (limit : ℕ) (h h' : List Entry) (runs : List Run) → Stage first searches limit h runs → Over h → h' ≡ h → IsHistory first (searches h') limit h' runs
 stage-over first searches limit h h' runs (Before opens none) over is = absurd (first_goes_on first (subst Over opens over))
-stage-over first searches limit h h' runs (Behind all) over is = subst (λ l. IsHistory first searches limit l runs) (sym is) all
+stage-over first searches limit h h' runs (Behind all) over is = subst (λ l. IsHistory first (searches l) limit l runs) (sym is) all
 
 -- main's run is the first and the last
-pub stage-run : (first : List Update) (searches : ℕ → Search) (limit : ℕ) (h : List Entry) (runs later : List Run) (run : Run) → runs ≡ [] → later ≡ runs ++ run ∷ [] → IsHistory first searches limit h (run ∷ []) → Stage first searches limit h later
-stage-run first searches limit h runs later run none pushed all = Behind (subst (IsHistory first searches limit h) (sym (pushed ∙ ap (λ l. l ++ run ∷ []) none)) all)
+pub stage-run : (first : List Update) (searches : List Entry → ℕ → Search) (limit : ℕ) (h : List Entry) (runs later : List Run) (run : Run) → runs ≡ [] → later ≡ runs ++ run ∷ [] → IsHistory first (searches h) limit h (run ∷ []) → Stage first searches limit h later
+stage-run first searches limit h runs later run none pushed all = Behind (subst (IsHistory first (searches h) limit h) (sym (pushed ∙ ap (λ l. l ++ run ∷ []) none)) all)

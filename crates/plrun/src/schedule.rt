@@ -1,9 +1,10 @@
 //! The schedule of a program's threads, by one worker.
 ghost use Rattle.std.specs.Prelude.{◌≡◌, ◌⊎◌, ◌∷◌, [], IfOk, IfSome, IfNone};
-ghost use Rattle.plsearch.specs.Search.{search_of};
+ghost use Rattle.plsearch.specs.Starts.{searches};
 ghost use Rattle.plhist.specs.Legal.{opening, Legal, ByOneWorker, Over};
 ghost use Rattle.plhist.specs.Runs.{AllFollow, OneEach};
 ghost use Rattle.plworld.specs.Worlds.{IsServing};
+ghost use Rattle.plsolver.specs.Solver.{IsSharedOf};
 ghost use Rattle.plrun.specs.Threads.{IsThread};
 ghost use Rattle.plrun.specs.Overall.{IsHistory};
 
@@ -11,17 +12,20 @@ use crate::thread::{Running, run_thread};
 use plevent::{Reply, Request, ThreadId, WorkerId};
 use plhist::{History, Journal, Run, Runs};
 use plprogram::program::Program;
-use plsolver::solver::Solver;
+use plsolver::shared::Shared;
+use plsolver::solver::{Solver, Start};
 use plworld::World;
 use std::alloc::{AllocError, Global};
 
 /// Starts a thread that was created and is not started. None: the run is over.
 fn start(
     alloc: Global,
+    shared: &Shared,
     program: &Program,
     world: &mut World,
     steps: u64,
 ) -> Result<Option<Running>, AllocError>
+    requires shared { IsSharedOf program.now shared.now }
     requires at { (world.old.journal ≡ opening program.now.first ∷ []) ⊎ Over world.old.journal }
     requires serves { IsServing world.old }
     ensures begun { IfOk result (λ o. IfSome o (λ running. IsThread program.now world.new.journal running)) }
@@ -31,8 +35,17 @@ fn start(
     ensures serves { IsServing world.new }
 {
     match world.step(alloc, WorkerId::FIRST, ThreadId::NONE, Request::Start)? {
-        Reply::Started { number, .. } => {
-            let solver = Solver::new(alloc, program, steps)?;
+        Reply::Started {
+            number,
+            alias,
+            goal,
+        } => {
+            let given = Start {
+                thread: number,
+                alias,
+                goal,
+            };
+            let solver = Solver::new(alloc, shared, program, given, steps)?;
             Ok(Some(Running {
                 thread: number,
                 solver,
@@ -51,10 +64,11 @@ fn run_all(
 ) -> Result<Vec<Run>, AllocError>
     requires opens { world.old.journal ≡ opening program.now.first ∷ [] }
     requires serves { IsServing world.old }
-    ensures { IfOk result (λ runs. IsHistory program.now.first (λ t. search_of program.now steps) steps world.new.journal runs.items) }
+    ensures { IfOk result (λ runs. IsHistory program.now.first (searches program.now steps world.new.journal) steps world.new.journal runs.items) }
 {
+    let shared = Shared::new(alloc, program)?;
     let mut runs = Vec::new(alloc);
-    while let Some(running) = start(alloc, program, world, steps)? {
+    while let Some(running) = start(alloc, &shared, program, world, steps)? {
         runs.push(run_thread(alloc, program, world, running)?)?;
     }
     Ok(runs)
@@ -72,7 +86,7 @@ pub fn run_schedule(
     ensures legal { IfOk result (λ history. Legal program.now.first history.journal) }
     ensures worker { IfOk result (λ history. ByOneWorker history.journal) }
     ensures over { IfOk result (λ history. Over history.journal) }
-    ensures follow { IfOk result (λ history. AllFollow (λ thread. search_of program.now steps) steps history.journal history.runs) }
+    ensures follow { IfOk result (λ history. AllFollow (searches program.now steps history.journal) steps history.journal history.runs) }
     ensures each { IfOk result (λ history. OneEach history.journal history.runs) }
 {
     let mut world = World::open(alloc, program.first())?;

@@ -3,7 +3,7 @@ ghost use Rattle.std.specs.Prelude.{◌≡◌, ℕ, IfOk, OnOk, IfSome, [], ◌�
 ghost use Rattle.plevent.specs.Search.{View, Ask};
 ghost use Rattle.plsearch.specs.Solving.{StandsAt, EndsAt};
 ghost use Rattle.plprogram.specs.Program.{Program as Given};
-ghost use Rattle.plsearch.specs.Search.{search_of};
+ghost use Rattle.plsearch.specs.Starts.{searches};
 ghost use Rattle.plstore.specs.Looking.{Views};
 ghost use Rattle.plsolver.specs.Fetching.{Fetches};
 ghost use Rattle.plsolver.specs.Solver.{rest_of, WaitsForView, WaitsForReply};
@@ -165,7 +165,7 @@ fn run(
 ) -> Result<Run, AllocError>
     requires runs { IsThread program.now world.old.journal running.old }
     requires serves { IsServing world.old }
-    ensures history { IfOk result (λ run. IsHistory program.now.first (λ t. search_of program.now running.old.solver.limit) running.old.solver.limit world.new.journal (run ∷ [])) }
+    ensures history { IfOk result (λ run. IsHistory program.now.first (searches program.now running.old.solver.limit world.new.journal) running.old.solver.limit world.new.journal (run ∷ [])) }
     ensures serves { IsServing world.new }
 {
     'turns: for _ in 0..u64::MAX {
@@ -185,7 +185,7 @@ pub fn run_thread(
 ) -> Result<Run, AllocError>
     requires runs { IsThread program.now world.old.journal running }
     requires serves { IsServing world.old }
-    ensures history { IfOk result (λ run. IsHistory program.now.first (λ t. search_of program.now running.solver.limit) running.solver.limit world.new.journal (run ∷ [])) }
+    ensures history { IfOk result (λ run. IsHistory program.now.first (searches program.now running.solver.limit world.new.journal) running.solver.limit world.new.journal (run ∷ [])) }
     ensures serves { IsServing world.new }
 {
     let mut running = running;

@@ -21,10 +21,10 @@ use Rattle.plrunlaws.proofs.Standing.{asked-at, stands-somewhere, stands-once, s
 use Rattle.plrunlaws.proofs.Batches.{served-makes}
 
 pub reached : (f : Followed) (k : ℕ) → IsReached f.program (at_turn f k)
-reached f k = (f.limit, answers f, k, refl)
+reached f k = (f.starts, f.limit, answers f, k, refl)
 
 pub next-turn : (f : Followed) (k : ℕ) → at_turn f (suc k) ≡ turn f.program (at_turn f k)
-next-turn f k = turns-next f.program k (machine_of f.program f.limit (answers f))
+next-turn f k = turns-next f.program k (machine_of f.program f.starts f.limit (answers f))
 
 -- where something is open, no clauses are asked for
 pub no-clauses : (f : Followed) (k : ℕ) → is_open f k ≡ true → (q : Item) → wanted (at_turn f k) ≡ Some q → IsOfClauses q → ⊥

@@ -9,7 +9,7 @@ use Rattle.plhist.specs.Follows.{Taken, item_at, takes, from_start, FollowsAs}
 use Rattle.plprogram.specs.Program.{Program}
 use Rattle.plsearch.specs.Types.{Result, Awaits, Supply}
 use Rattle.plsearch.specs.Engine.{out, outs}
-use Rattle.plsearch.specs.Search.{next_of, ending_of, search_of}
+use Rattle.plsearch.specs.Search.{Start, next_of, ending_of, search_of}
 use Rattle.plsearch.specs.Machines.Machine.{Back, Rest, turn}
 use Rattle.pltransactions.specs.Laws.{turns, machine_of, wanted, left_of}
 use Rattle.pltransactions.proofs.Transactions.{turns-rest, takes-what-it-asks, waits-for-what-it-asks}
@@ -19,24 +19,24 @@ use Rattle.plrunlaws.proofs.Machines.{turns-next, with_answers, Short, short, fi
 use Rattle.plrunlaws.proofs.Lists.{heads}
 
 pub follows-to-its-end : FollowsToItsEnd
-follows-to-its-end P limit h run e follows is =
-    (record { program = P; limit = limit; journal = h; run = run; came_to = e; ended = subst (FollowsAs (search_of P limit) limit h run) is follows }, refl, refl, refl, refl, refl)
+follows-to-its-end P s limit h run e follows is =
+    (record { program = P; starts = s; limit = limit; journal = h; run = run; came_to = e; ended = subst (FollowsAs (search_of P s limit) limit h run) is follows }, refl, refl, refl, refl, refl, refl)
 
 -- the search of a run, with some answers, is what its machine comes to from each turn on
-search-from : (P : Program) (limit n k : ℕ) (xs : List Answer) → search_of P limit n xs ≡ ending_of (min n limit) (Rest P (turns P k (machine_of P (min n limit) xs)))
+search-from : (P : Program) (s : Start) (limit n k : ℕ) (xs : List Answer) → search_of P s limit n xs ≡ ending_of (min n limit) (Rest P (turns P k (machine_of P s (min n limit) xs)))
 unfolding search_of Rest outs out
-search-from P limit n k xs = ap (ending_of (min n limit)) (turns-rest P k (machine_of P (min n limit) xs))
+search-from P s limit n k xs = ap (ending_of (min n limit)) (turns-rest P k (machine_of P s (min n limit) xs))
 
 pub least-same : (n : ℕ) → min n n ≡ n
 least-same n = omega arith
 
-pub search-at : (P : Program) (limit k : ℕ) (xs : List Answer) → search_of P limit limit xs ≡ ending_of limit (Rest P (turns P k (machine_of P limit xs)))
-search-at P limit k xs = subst (λ s. search_of P limit limit xs ≡ ending_of s (Rest P (turns P k (machine_of P s xs)))) (least-same limit) (search-from P limit limit k xs)
+pub search-at : (P : Program) (s : Start) (limit k : ℕ) (xs : List Answer) → search_of P s limit limit xs ≡ ending_of limit (Rest P (turns P k (machine_of P s limit xs)))
+search-at P s limit k xs = subst (λ n. search_of P s limit limit xs ≡ ending_of n (Rest P (turns P k (machine_of P s n xs)))) (least-same limit) (search-from P s limit limit k xs)
 
 -- where its machine carries a result to the outside at some turn
 pub ends-with : (f : Followed) (k : ℕ) (r : Result) (run : Supply) → Rest f.program (at_turn f k) ≡ (r, run) → next_of r ≡ Finishes f.came_to
 ends-with f k r run is =
-    ap (λ e. next_of e.0) (sym is) ∙ ap (λ e. e.next) (sym (search-at f.program f.limit k (answers f))) ∙ ap (λ e. e.next) f.ended.ends
+    ap (λ e. next_of e.0) (sym is) ∙ ap (λ e. e.next) (sym (search-at f.program f.starts f.limit k (answers f))) ∙ ap (λ e. e.next) f.ended.ends
 
 -- all items of the run, the last one among them
 pub whole : (f : Followed) → takes (asks f) f.journal f.run.thread f.run.places (from_start (start_of f)) ≡ Some f.ended.asked.last
@@ -48,8 +48,8 @@ whole f =
     (takes-both (asks f) f.journal f.run.thread a.earlier (a.final ∷ []) (from_start (start_of f)) a.before a.last a.items
     (takes-more (asks f) f.journal f.run.thread a.final [] a.before a.last a.last one (takes-nothing (asks f) f.journal f.run.thread a.last)))
 
-pub short-of : (f : Followed) (k : ℕ) → Short f.program k (machine_of f.program f.limit (answers f))
-short-of f k = short f.program k (machine_of f.program f.limit (answers f))
+pub short-of : (f : Followed) (k : ℕ) → Short f.program k (machine_of f.program f.starts f.limit (answers f))
+short-of f k = short f.program k (machine_of f.program f.starts f.limit (answers f))
 
 pub stands-somewhere : StandsSomewhere
 stands-somewhere f k =
@@ -91,10 +91,10 @@ asks-there f k s q stood is =
     let P = f.program in
     let used = short-of f k in
     let same : used.used ≡ s.answers = append_cancel_right used.used s.answers (at_turn f k).run.answers (sym used.all ∙ stood.taken) in
-    let there : turns P k (machine_of P f.limit s.answers) ≡ with_answers [] (at_turn f k) = ap (λ xs. turns P k (machine_of P f.limit xs)) (sym same) ∙ used.comes in
-    let waits : turns P (suc k) (machine_of P f.limit s.answers) ≡ record { mode = Back (Awaits q); cases = (at_turn f k).cases; run = record (at_turn f k).run { answers = [] } } =
-    turns-next P k (machine_of P f.limit s.answers) ∙ ap (turn P) there ∙ waits-for-what-it-asks P (with_answers [] (at_turn f k)) q is refl in
-    ap (λ e. e.next) (search-at P f.limit (suc k) s.answers)
+    let there : turns P k (machine_of P f.starts f.limit s.answers) ≡ with_answers [] (at_turn f k) = ap (λ xs. turns P k (machine_of P f.starts f.limit xs)) (sym same) ∙ used.comes in
+    let waits : turns P (suc k) (machine_of P f.starts f.limit s.answers) ≡ record { mode = Back (Awaits q); cases = (at_turn f k).cases; run = record (at_turn f k).run { answers = [] } } =
+    turns-next P k (machine_of P f.starts f.limit s.answers) ∙ ap (turn P) there ∙ waits-for-what-it-asks P (with_answers [] (at_turn f k)) q is refl in
+    ap (λ e. e.next) (search-at P f.starts f.limit (suc k) s.answers)
     ∙ ap (λ m. next_of (Rest P m).0) waits
     ∙ ap (λ e. next_of e.0) (final-rest P (Awaits q) (at_turn f k).cases (record (at_turn f k).run { answers = [] }) tt)
 
@@ -105,7 +105,7 @@ wants-ends q e is = absurd (never is)
     never is = cc
 
 next-answers : (f : Followed) (k : ℕ) → (at_turn f (suc k)).run.answers ≡ left_of (wanted (at_turn f k)) (at_turn f k).run.answers
-next-answers f k = ap (λ m. m.run.answers) (turns-next f.program k (machine_of f.program f.limit (answers f))) ∙ takes-what-it-asks f.program (at_turn f k)
+next-answers f k = ap (λ m. m.run.answers) (turns-next f.program k (machine_of f.program f.starts f.limit (answers f))) ∙ takes-what-it-asks f.program (at_turn f k)
 
 -- what a turn asks, with the answer that it takes
 pub record AskedAt (f : Followed) (k : ℕ) (s : Taken) (q : Item) : Type 0 where

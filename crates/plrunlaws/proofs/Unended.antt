@@ -101,7 +101,7 @@ takes-ends asks h t e (g ∷ gs) s s' over is =
 
 -- a search that has ended ignores further answers
 stays-ended : (f : Followed) (s : Taken) (e : ThreadEnd) → asks f s.answers ≡ Finishes e → (xs : List Answer) → asks f (s.answers ++ xs) ≡ Finishes e
-stays-ended f s e is xs = ap (λ x. x.next) (ends_ignore f.program f.limit f.limit s.answers xs e is) ∙ is
+stays-ended f s e is xs = ap (λ x. x.next) (ends_ignore f.program f.starts f.limit f.limit s.answers xs e is) ∙ is
 
 -- what is asked after the answers so far is what the machine then comes to
 asks-then : (f : Followed) (k : ℕ) (s : Taken) → StandsAt f k s → asks f s.answers ≡ next_of (Rest f.program (with_answers [] (at_turn f k))).0
@@ -109,7 +109,7 @@ asks-then f k s stood =
     let P = f.program in
     let used = short-of f k in
     let same : used.used ≡ s.answers = append_cancel_right used.used s.answers (at_turn f k).run.answers (sym used.all ∙ stood.taken) in
-    ap (λ e. e.next) (search-at P f.limit k s.answers) ∙ ap (λ m. next_of (Rest P m).0) (ap (λ xs. turns P k (machine_of P f.limit xs)) (sym same) ∙ used.comes)
+    ap (λ e. e.next) (search-at P f.starts f.limit k s.answers) ∙ ap (λ m. next_of (Rest P m).0) (ap (λ xs. turns P k (machine_of P f.starts f.limit xs)) (sym same) ∙ used.comes)
 
 over-rest : (f : Followed) (r : Result) (run : Supply) → Rest f.program (record { mode = Back r; cases = []; run = run }) ≡ (r, run)
 unfolding Rest outs
@@ -128,7 +128,7 @@ ceases f s i r run stood is =
 -- an end of the machine's turns that comes later than any turn
 over-late : (f : Followed) → (n : ℕ) → (k : ℕ) (r : Result) (run : Supply) → at_turn f k ≡ record { mode = Back r; cases = []; run = run } → at_turn f (k + n) ≡ record { mode = Back r; cases = []; run = run }
 unfolding turn
-over-late f n k r run is = turns-both f.program k n (machine_of f.program f.limit (answers f)) ∙ ap (turns f.program n) is ∙ still n
+over-late f n k r run is = turns-both f.program k n (machine_of f.program f.starts f.limit (answers f)) ∙ ap (turns f.program n) is ∙ still n
   where
     still : (n : ℕ) → turns f.program n (record { mode = Back r; cases = []; run = run }) ≡ record { mode = Back r; cases = []; run = run }
     still zero = refl
@@ -136,8 +136,8 @@ over-late f n k r run is = turns-both f.program k n (machine_of f.program f.limi
 
 pub comes-to-end : (f : Followed) → (n : ℕ) × (r : Result) × (run : Supply) × (at_turn f n ≡ record { mode = Back r; cases = []; run = run })
 comes-to-end f =
-    let end = search-by-turns f.program f.limit f.limit (answers f) in
-    (end.0, end.1, end.2, ap (λ steps. turns f.program end.0 (machine_of f.program steps (answers f))) (sym (least-same f.limit)) ∙ end.3)
+    let end = search-by-turns f.program f.starts f.limit f.limit (answers f) in
+    (end.0, end.1, end.2, ap (λ steps. turns f.program end.0 (machine_of f.program f.starts steps (answers f))) (sym (least-same f.limit)) ∙ end.3)
 
 -- where a result comes to the outside and something is open, there was no step left, or the run was ended
 short-end : (r : Result) (e : ThreadEnd) → (IsDone r → ⊥) → next_of r ≡ Finishes e → IsCutShort e
@@ -156,7 +156,7 @@ open-short : (f : Followed) (n : ℕ) (r : Result) (run : Supply) → at_turn f 
 open-short f n r run is now = short-end r f.came_to not_done (ends-with f n r run (ap (Rest f.program) is ∙ over-rest f r run))
   where
     not_done : IsDone r → ⊥
-    not_done done = never (sym now ∙ ap (λ m. any_open m.run.local.own) is ∙ ap any_open (nothing-left-open f.program r run (f.limit, answers f, n, sym is) done))
+    not_done done = never (sym now ∙ ap (λ m. any_open m.run.local.own) is ∙ ap any_open (nothing-left-open f.program r run (f.starts, f.limit, answers f, n, sym is) done))
       where
         never : true ≡ false → ⊥
         never is = cc

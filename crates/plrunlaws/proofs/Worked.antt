@@ -30,7 +30,7 @@ use Rattle.plsearch.specs.Rows.{row, select, meet}
 use Rattle.plsearch.specs.Replies.{answered}
 use Rattle.plsearch.specs.Handlers.{resume}
 use Rattle.plsearch.specs.Engine.{choice, out, outs, moved, walk, visit_in, Visit}
-use Rattle.plsearch.specs.Search.{start_from, start_of, search_of}
+use Rattle.plsearch.specs.Search.{main_start, start_from, start_of, search_of}
 use Rattle.plsearch.specs.Machines.Machine.{turn}
 use Rattle.plrunlaws.specs.Standing.{Followed, at_turn, is_open}
 use Rattle.plrunlaws.specs.Transactions.{Lasts, published_by, StandsAlone, LastsToTheEnd, EndsInside}
@@ -93,7 +93,7 @@ before = record { answers = Seen 2 [] ∷ Got Reply.Published ∷ []; low = 3; m
 abbrev last : Taken
 last = record { answers = Seen 2 [] ∷ Got Reply.Published ∷ Got Reply.Done ∷ []; low = 4; made = (2, Act.Batch both) ∷ (3, Act.End ThreadEnd.True) ∷ [] }
 
-follows : HasEnded (search_of adds_both 20) 20 journal run ThreadEnd.True
+follows : HasEnded (search_of adds_both (main_start adds_both) 20) 20 journal run ThreadEnd.True
 unfolding all
 follows = record {
   asked = record {
@@ -113,7 +113,7 @@ follows = record {
 }
 
 unfoldable followed : Followed
-followed = record { program = adds_both; limit = 20; journal = journal; run = run; came_to = ThreadEnd.True; ended = follows }
+followed = record { program = adds_both; starts = main_start adds_both; limit = 20; journal = journal; run = run; came_to = ThreadEnd.True; ended = follows }
 
 -- it takes its view at the turn 3, and is at its end at the turn 7
 lasts : Lasts followed 3 7
@@ -148,7 +148,7 @@ halts = program (transaction (adds (codes "a")) (name (codes "halt")))
 abbrev halted : List Entry
 halted = opening [] ∷ by_main Act.Start ∷ by_main (Act.Halt 0) ∷ []
 
-halting : HasEnded (search_of halts 20) 20 halted (record { thread = 1; places = 2 ∷ 2 ∷ []; steps = 6; «end» = RunEnd.Ended (ThreadEnd.Halt 0); output = [] }) (ThreadEnd.Halt 0)
+halting : HasEnded (search_of halts (main_start halts) 20) 20 halted (record { thread = 1; places = 2 ∷ 2 ∷ []; steps = 6; «end» = RunEnd.Ended (ThreadEnd.Halt 0); output = [] }) (ThreadEnd.Halt 0)
 unfolding all
 halting = record {
   asked = record {
@@ -170,6 +170,7 @@ halting = record {
 unfoldable cut_short : Followed
 cut_short = record {
   program = halts;
+  starts = main_start halts;
   limit = 20;
   journal = halted;
   run = record { thread = 1; places = 2 ∷ 2 ∷ []; steps = 6; «end» = RunEnd.Ended (ThreadEnd.Halt 0); output = [] };

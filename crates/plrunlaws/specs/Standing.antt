@@ -1,4 +1,4 @@
--- Where a run that follows main's search stands in the journal, at each turn of the machine that does the search.
+-- Where a run that follows its thread's search stands in the journal, at each turn of the machine that does the search.
 use Rattle.std.specs.Prelude.{◌≡◌, ℕ, suc, ◌<◌, ◌≤◌, Bool, List, [], ◌∷◌, ◌++◌, Some, None}
 use Rattle.std.specs.List.{All}
 use Rattle.plevent.specs.declared.request.ThreadEnd.{ThreadEnd}
@@ -10,34 +10,35 @@ use Rattle.plhist.specs.declared.history.RunEnd.{RunEnd}
 use Rattle.plhist.specs.Follows.{own, Taken, answer_at, takes, from_start, asks_of, HasEnded, Follows}
 use Rattle.pltx.specs.Own.{any_open}
 use Rattle.plprogram.specs.Program.{Program}
-use Rattle.plsearch.specs.Search.{search_of}
+use Rattle.plsearch.specs.Search.{Start, search_of}
 use Rattle.plsearch.specs.Machines.Machine.{Machine}
 use Rattle.pltransactions.specs.Laws.{turns, machine_of, wanted}
 
--- a run that follows main's search to its end, in a journal
+-- a run that follows the search from a start to its end, in a journal
 pub record Followed : Type 0 where
   pub program : Program
+  pub starts : Start
   pub limit : ℕ
   pub journal : List Entry
   pub run : Run
   pub came_to : ThreadEnd
-  pub ended : HasEnded (search_of program limit) limit journal run came_to
+  pub ended : HasEnded (search_of program starts limit) limit journal run came_to
 
--- each run that follows that search is one, if it came to an end of its own
+-- each run that follows such a search is one, if it came to an end of its own
 abbrev pub FollowsToItsEnd : Type 0
-FollowsToItsEnd = (P : Program) (limit : ℕ) (h : List Entry) (run : Run) (e : ThreadEnd) → Follows (search_of P limit) limit h run → run.«end» ≡ RunEnd.Ended e →
-    (f : Followed) × (f.program ≡ P) × (f.limit ≡ limit) × (f.journal ≡ h) × (f.run ≡ run) × (f.came_to ≡ e)
+FollowsToItsEnd = (P : Program) (s : Start) (limit : ℕ) (h : List Entry) (run : Run) (e : ThreadEnd) → Follows (search_of P s limit) limit h run → run.«end» ≡ RunEnd.Ended e →
+    (f : Followed) × (f.program ≡ P) × (f.starts ≡ s) × (f.limit ≡ limit) × (f.journal ≡ h) × (f.run ≡ run) × (f.came_to ≡ e)
 
 -- what it asks after some answers, and all answers that it got
 abbrev pub asks : Followed → List Answer → Next
-asks f = asks_of (search_of f.program f.limit) f.limit
+asks f = asks_of (search_of f.program f.starts f.limit) f.limit
 
 abbrev pub answers : Followed → List Answer
 answers f = f.ended.asked.last.answers
 
 -- the machine of the search with these answers, after so many turns
 abbrev pub at_turn : Followed → ℕ → Machine
-at_turn f k = turns f.program k (machine_of f.program f.limit (answers f))
+at_turn f k = turns f.program k (machine_of f.program f.starts f.limit (answers f))
 
 -- a transaction or a snapshot is open there
 abbrev pub is_open : Followed → ℕ → Bool

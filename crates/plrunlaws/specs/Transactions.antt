@@ -1,4 +1,4 @@
--- What a transaction or a snapshot does to the journal of a run that follows main's search.
+-- What a transaction or a snapshot does to the journal of a run that follows its thread's search.
 use Rattle.std.specs.Prelude.{◌≡◌, ℕ, suc, ◌<◌, ◌≤◌, ◌⊎◌, true, false, List, [], ◌∷◌, ◌++◌, take, Some}
 use Rattle.std.specs.List.{All}
 use Rattle.plevent.specs.declared.request.ThreadEnd.{ThreadEnd}

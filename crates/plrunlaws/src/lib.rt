@@ -1,8 +1,8 @@
 //! The laws of runs and their journals: what makes a batch, where a run stands in its journal at each turn of its search, and what a
 //! transaction or a snapshot does to the journal.
 //!
-//! It has no code. `specs/Batches.antt` says what makes a batch. `specs/Standing.antt` ties a run that follows main's search to the
-//! machine that does the search by turns, and `specs/Transactions.antt` states over both what the laws of the machine's turns in
+//! It has no code. `specs/Batches.antt` says what makes a batch. `specs/Standing.antt` ties a run that follows its thread's search to
+//! the machine that does the search by turns, and `specs/Transactions.antt` states over both what the laws of the machine's turns in
 //! pltransactions come to in the journal.
 #![tactic(auto)]
 
@@ -16,7 +16,7 @@ pub fn each_batch_is_asked()
     ensures { EachBatchIsAsked }
 {}
 
-/// Each run that follows main's search to an end of its own is one that the laws here are about. At each turn of its machine it stands at
+/// Each run that follows its thread's search to an end of its own is one that the laws here are about. At each turn of its machine it stands at
 /// one place of its journal: its items so far are those whose answers the machine has taken.
 #[tactic(auto, using(crate::proofs::Standing::laws))]
 pub fn stands_at_each_turn()

@@ -10,7 +10,7 @@ use Rattle.plsearch.specs.Rows.{select, meet}
 use Rattle.plsearch.specs.Replies.{answered, founded}
 use Rattle.plsearch.specs.Handlers.{resume}
 use Rattle.plsearch.specs.Engine.{Ended, deeper, choice, returned, out, outs, moved, stepped, asks, publishes, met, walk, left, Visit}
-use Rattle.plsearch.specs.Search.{next_of, ending_of, from_start, start_of, search_of}
+use Rattle.plsearch.specs.Search.{Start, next_of, ending_of, from_start, start_of, search_of}
 use Rattle.plsearch.proofs.Fuel.{Agree, Same, out-agree, visit-agree, Visit-walk}
 
 pub Visit-left : (P : Program) (d : ℕ) (p : Resolvent) (run : Supply) → left (Visit P d p run).1 ≤ left run
@@ -187,10 +187,10 @@ ended_asks (Awaits q) e is = cc
 ended_asks Stopped e is = tt
 ended_asks Unfit e is = tt
 
-pub ends_ignore : (P : Program) (limit n : ℕ) (answers further : List Answer) (e : ThreadEnd) →
-    (search_of P limit n answers).next ≡ Finishes e → search_of P limit n (answers ++ further) ≡ search_of P limit n answers
+pub ends_ignore : (P : Program) (s : Start) (limit n : ℕ) (answers further : List Answer) (e : ThreadEnd) →
+    (search_of P s limit n answers).next ≡ Finishes e → search_of P s limit n (answers ++ further) ≡ search_of P s limit n answers
 unfolding search_of out
-ends_ignore P limit n answers further e is =
-    let run = from_start P (min n limit) answers in
-    ap (ending_of (min n limit)) (outermost-grows P further (Visit P 1 (start_of P) run) (Visit P 1 (start_of P) (from_start P (min n limit) (answers ++ further)))
-    (visit-grows P further 1 (start_of P) run) (ended_asks (out (Visit P) 0 (Choice []) (Visit P 1 (start_of P) run)).0 e is))
+ends_ignore P s limit n answers further e is =
+    let run = from_start P s (min n limit) answers in
+    ap (ending_of (min n limit)) (outermost-grows P further (Visit P 1 (start_of s) run) (Visit P 1 (start_of s) (from_start P s (min n limit) (answers ++ further)))
+    (visit-grows P further 1 (start_of s) run) (ended_asks (out (Visit P) 0 (Choice []) (Visit P 1 (start_of s) run)).0 e is))

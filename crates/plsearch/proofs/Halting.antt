@@ -1,4 +1,4 @@
--- How main's search ends the run: once that is done, and no sooner.
+-- How a search ends the run: once that is done, and no sooner.
 use Rattle.std.proofs.Common.{◌≡◌, ℕ, zero, suc, ◌<◌, Bool, true, false, not, inl, inr, List, [], ◌∷◌, ◌++◌, min, refl, sym, ap, ◌∙◌, subst, arith, if◌then◌else◌}
 use Rattle.plterm.specs.Tree.{Tree}
 use Rattle.plevent.specs.declared.request.Request.{Request}
@@ -7,7 +7,7 @@ use Rattle.plevent.specs.declared.request.ThreadEnd.{ThreadEnd}
 use Rattle.plevent.specs.declared.update.ClauseName.{ClauseName}
 use Rattle.plevent.specs.declared.update.Update.TheVariants.{Erase}
 use Rattle.plevent.specs.Alive.{Stamped}
-use Rattle.plevent.specs.Search.{Item, View, Ask, Answer, Got, Wants, Finishes, Search}
+use Rattle.plevent.specs.Search.{Item, View, Ask, Answer, Got, Wants, Finishes}
 use Rattle.pltx.specs.Own.{any_open, ending, erased_in, made, target_at}
 use Rattle.plprogram.specs.Program.{Program}
 use Rattle.plsearch.specs.Types.{Result, Stop, Fail, CutTo, Throw, Halted, Spent, Awaits, Stopped, Unfit, Commit, Never, Until, Collect, Transact, Then, GoesOn, Ends, Question, Look, Begin, Await, Element, Goal, Marker, Raise, Asking, Resolvent, Case, Choice, Mark, Handle, Catch, Gather, Undo, Return, Keep, Again, Anew, Local, Move, Give, Go, Meeting, Asks, End, Pass, Supply}
@@ -18,7 +18,7 @@ use Rattle.plsearch.specs.Engine.{choice, out, deeper, outs, Visit, left}
 use Rattle.plsearch.specs.Machines.Machine.{Mode, At, Back, Machine, Rest, move, step, ask, meets, visits, backs, turn_in, turn}
 use Rattle.plsearch.specs.Machines.Machine as machines
 use Rattle.plsearch.specs.Machines.Weight.{weight, Lighter}
-use Rattle.plsearch.specs.Search.{start_from, start_of, from_start, next_of, search_of}
+use Rattle.plsearch.specs.Search.{Start, start_from, start_of, from_start, next_of, search_of}
 use Rattle.plsearch.proofs.Turns.{Rest-turn}
 use Rattle.plsearch.proofs.Weight.{lighter-turn}
 use Rattle.plsearch.specs.Halts.{IsCommon, AreCommon, HaltsNoSooner, HaltsWhenDone}
@@ -287,7 +287,7 @@ module _ (P : Program) where
   unfolding Claim
   visit_comes p run proper common = comes (record { mode = At p; cases = Choice [] ∷ []; run = run }) (record { mode = proper; cases = (tt, tt); answers = common })
 
--- main's goals ask nothing
+-- the goals at a start ask nothing
 start_proper : (gs : List Tree) → AreProper (start_from gs).goals
 unfolding start_from
 start_proper [] = tt
@@ -315,17 +315,17 @@ next_asks Spent q is = cc
 next_asks Stopped q is = cc
 next_asks Unfit q is = cc
 
-pub halts-no-sooner : (P : Program) (limit : ℕ) → HaltsNoSooner (search_of P limit)
+pub halts-no-sooner : (P : Program) (s : Start) (limit : ℕ) → HaltsNoSooner (search_of P s limit)
 unfolding search_of start_of Rest outs out
-halts-no-sooner P limit n i answers common is =
-    let from = from_start P (min n limit) answers in
-    (visit_comes P (start_of P) from (start_proper P.goals) common).no_sooner i (next_halted (out (Visit P) 0 (Choice []) (Visit P 1 (start_of P) from)).0 i is)
+halts-no-sooner P s limit n i answers common is =
+    let from = from_start P s (min n limit) answers in
+    (visit_comes P (start_of s) from (start_proper s.goals) common).no_sooner i (next_halted (out (Visit P) 0 (Choice []) (Visit P 1 (start_of s) from)).0 i is)
 
-pub halts-when-done : (P : Program) (limit : ℕ) → HaltsWhenDone (search_of P limit)
+pub halts-when-done : (P : Program) (s : Start) (limit : ℕ) → HaltsWhenDone (search_of P s limit)
 unfolding search_of start_of Rest outs out
-halts-when-done P limit n i answers common is =
-    let from = from_start P (min n limit) answers in
-    ap next_of ((visit_comes P (start_of P) from (start_proper P.goals) common).when_done i (next_asks (out (Visit P) 0 (Choice []) (Visit P 1 (start_of P) from)).0 (Ask (Request.HaltRun i)) is))
+halts-when-done P s limit n i answers common is =
+    let from = from_start P s (min n limit) answers in
+    ap next_of ((visit_comes P (start_of s) from (start_proper s.goals) common).when_done i (next_asks (out (Visit P) 0 (Choice []) (Visit P 1 (start_of s) from)).0 (Ask (Request.HaltRun i)) is))
 
 pub laws : EndsRunWhenDone
-laws P limit = (halts-when-done P limit, halts-no-sooner P limit)
+laws P s limit = (halts-when-done P s limit, halts-no-sooner P s limit)

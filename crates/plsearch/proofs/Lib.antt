@@ -7,6 +7,7 @@ pub mod Bounds
 pub mod Cuts
 pub mod HaltingRows
 pub mod Halting
+pub mod Starts
 mod Worked
 mod WorkedTransactions
 pub mod WorkedClauses

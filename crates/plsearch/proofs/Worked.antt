@@ -23,7 +23,7 @@ use Rattle.plsearch.specs.Rows.{row, select, meet}
 use Rattle.plsearch.specs.Replies.{answered}
 use Rattle.plsearch.specs.Handlers.{resume}
 use Rattle.plsearch.specs.Engine.{choice, out, outs, moved, walk, visit_in, Visit}
-use Rattle.plsearch.specs.Search.{start_from, start_of, search_of}
+use Rattle.plsearch.specs.Search.{main_start, start_from, start_of, search_of}
 
 -- all that a search computes with
 unfoldable pub all : ℕ
@@ -55,8 +55,12 @@ with_variables n g = record {
 abbrev pub with_goal : Tree → Program
 with_goal = with_variables 1
 
+-- main's search
+abbrev pub main_search : Program → ℕ → ℕ → List Answer → Ending
+main_search P = search_of P (main_start P)
+
 abbrev pub search : Tree → ℕ → List Answer → Ending
-search g = search_of (with_goal g) 1000
+search g = main_search (with_goal g) 1000
 
 -- main :- write(hello), nl.
 abbrev hello : Tree
@@ -72,7 +76,7 @@ unfolding all
 has_four_steps = refl
 
 -- no run has more steps than the limit
-keeps_the_limit : search_of (with_goal hello) 4 1000 [] ≡ record { next = Finishes Budget; used = 4; out = codes "hello" }
+keeps_the_limit : main_search (with_goal hello) 4 1000 [] ≡ record { next = Finishes Budget; used = 4; out = codes "hello" }
 unfolding all
 keeps_the_limit = refl
 
@@ -137,7 +141,7 @@ unfolding all
 no_procedure = refl
 
 -- the same where the flag unknown is fail
-fails_unknown : search_of (record (with_goal (name (codes "q"))) { settings = record { operators = []; quotes = Codes; unknown = unknown.Fail } }) 1000 1000 (Seen 2 [] ∷ [])
+fails_unknown : main_search (record (with_goal (name (codes "q"))) { settings = record { operators = []; quotes = Codes; unknown = unknown.Fail } }) 1000 1000 (Seen 2 [] ∷ [])
     ≡ record { next = Finishes False; used = 3; out = [] }
 unfolding all
 fails_unknown = refl
@@ -301,7 +305,7 @@ unfolding all
 catches_in_not = refl
 
 abbrev search_3 : Tree → ℕ → List Answer → Ending
-search_3 g = search_of (with_variables 3 g) 1000
+search_3 g = main_search (with_variables 3 g) 1000
 
 -- main :- catch(p(X), Y, true), throw(X): a catcher whose goal has exited is not active
 exits : (search_3 (and (catches (of (codes "p") (var 0)) (var 1) (name (codes "true"))) (of (codes "throw") (var 0))) 1000 []).next ≡ Finishes (Exception (name (codes "a")))
@@ -331,7 +335,7 @@ finds t g l = compound (codes "findall") (more t (more g (more l none)))
 abbrev collects : Tree
 collects = and (finds (var 0) (of (codes "p") (var 0)) (var 1)) (of (codes "write") (var 1))
 
-writes_all : search_of (with_variables 2 collects) 1000 1000 [] ≡ record { next = Finishes True; used = 6; out = codes "[a,b]" }
+writes_all : main_search (with_variables 2 collects) 1000 1000 [] ≡ record { next = Finishes True; used = 6; out = codes "[a,b]" }
 unfolding all
 writes_all = refl
 
@@ -339,24 +343,24 @@ writes_all = refl
 abbrev a_and_b : Tree
 a_and_b = pair (codes ".") (name (codes "a")) (pair (codes ".") (name (codes "b")) (name (codes "[]")))
 
-keeps_apart : search_of (with_variables 2 (finds (var 1) (of (codes "p") (var 0)) a_and_b)) 1000 1000 [] ≡ record { next = Finishes True; used = 4; out = [] }
+keeps_apart : main_search (with_variables 2 (finds (var 1) (of (codes "p") (var 0)) a_and_b)) 1000 1000 [] ≡ record { next = Finishes True; used = 4; out = [] }
 unfolding all
 keeps_apart = refl
 
 -- main :- findall(L, (p(X), findall(X, p(Y), L)), M), write(M).
-nests : search_of (with_variables 4 (and (finds (var 2) (and (of (codes "p") (var 0)) (finds (var 0) (of (codes "p") (var 1)) (var 2))) (var 3)) (of (codes "write") (var 3)))) 1000 1000 []
+nests : main_search (with_variables 4 (and (finds (var 2) (and (of (codes "p") (var 0)) (finds (var 0) (of (codes "p") (var 1)) (var 2))) (var 3)) (of (codes "write") (var 3)))) 1000 1000 []
     ≡ record { next = Finishes True; used = 11; out = codes "[[a,a],[b,b]]" }
 unfolding all
 nests = refl
 
 -- main :- catch(findall(X, (p(X), throw(y)), L), y, true), findall(X, p(X), L), write(L): what was kept before the ball is gone
-drops : search_of (with_variables 2 (and (catches (finds (var 0) (and (of (codes "p") (var 0)) (of (codes "throw") (name (codes "y")))) (var 1)) (name (codes "y")) (name (codes "true"))) collects)) 1000 1000 []
+drops : main_search (with_variables 2 (and (catches (finds (var 0) (and (of (codes "p") (var 0)) (of (codes "throw") (name (codes "y")))) (var 1)) (name (codes "y")) (name (codes "true"))) collects)) 1000 1000 []
     ≡ record { next = Finishes True; used = 13; out = codes "[a,b]" }
 unfolding all
 drops = refl
 
 -- main :- findall(X, p(X), a).
-wants_a_list : (search_of (with_variables 1 (finds (var 0) (of (codes "p") (var 0)) (name (codes "a")))) 1000 1000 []).next
+wants_a_list : (main_search (with_variables 1 (finds (var 0) (of (codes "p") (var 0)) (name (codes "a")))) 1000 1000 []).next
     ≡ Finishes (Exception (pair (codes "error") (pair (codes "type_error") (name (codes "list")) (name (codes "a"))) (pair (codes "/") (name (codes "findall")) (int (pos 3)))))
 unfolding all
 wants_a_list = refl
@@ -377,6 +381,6 @@ with_balls g = record {
   directives = 1;
 }
 
-numbers_anew : search_of (with_balls (and (catches (name (codes "t")) (var 0) (name (codes "true"))) (and (of (codes "r") (var 1)) (pair (codes "=") (var 0) (of (codes "f") (name (codes "b"))))))) 1000 1000 [] ≡ record { next = Finishes True; used = 11; out = [] }
+numbers_anew : main_search (with_balls (and (catches (name (codes "t")) (var 0) (name (codes "true"))) (and (of (codes "r") (var 1)) (pair (codes "=") (var 0) (of (codes "f") (name (codes "b"))))))) 1000 1000 [] ≡ record { next = Finishes True; used = 11; out = [] }
 unfolding all
 numbers_anew = refl

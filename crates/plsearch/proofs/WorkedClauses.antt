@@ -10,12 +10,11 @@ use Rattle.plevent.specs.declared.request.Request.TheVariants.{Publish, EraseOne
 use Rattle.plevent.specs.declared.request.ThreadEnd.TheVariants.{True, False, Exception}
 use Rattle.plevent.specs.declared.update.Update.TheVariants.{First, Declare, Erase}
 use Rattle.plerror.specs.Errors.{pair}
-use Rattle.plsearch.specs.Search.{search_of}
-use Rattle.plsearch.proofs.Worked.{all, name, of, and, with_variables, search, q7, added}
+use Rattle.plsearch.proofs.Worked.{all, name, of, and, with_variables, main_search, search, q7, added}
 
 -- a search whose first clause has two variables
 abbrev search_2 : Tree → List Answer → Ending
-search_2 g = search_of (with_variables 2 g) 1000 1000
+search_2 g = main_search (with_variables 2 g) 1000 1000
 
 abbrev clause : Tree → Tree → Tree
 clause h b = compound (codes "clause") (more h (more b none))

@@ -10,12 +10,11 @@ use Rattle.plevent.specs.declared.request.ThreadEnd.TheVariants.{True, False, Ex
 use Rattle.plevent.specs.declared.update.Update.{Update}
 use Rattle.plevent.specs.declared.update.Update.TheVariants.{Last, Erase, EraseOwn}
 use Rattle.plerror.specs.Errors.{pair}
-use Rattle.plsearch.specs.Search.{search_of}
-use Rattle.plsearch.proofs.Worked.{all, name, of, and, with_variables}
+use Rattle.plsearch.proofs.Worked.{all, name, of, and, with_variables, main_search}
 
 -- a search whose first clause has two variables
 abbrev search : Tree → List Answer → Ending
-search g = search_of (with_variables 2 g) 1000 1000
+search g = main_search (with_variables 2 g) 1000 1000
 
 abbrev transaction : Tree → Tree
 transaction g = of (codes "transaction") g

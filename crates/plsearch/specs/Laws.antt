@@ -1,15 +1,19 @@
 -- The laws of the search and of its machine.
-use Rattle.std.specs.Prelude.{◌≡◌, ℕ, suc, List, [], ◌∷◌, ◌++◌}
+use Rattle.std.specs.Prelude.{◌≡◌, ℕ, suc, List, [], ◌∷◌, ◌++◌, find, Some}
 use Rattle.plterm.specs.Tree.{Tree}
 use Rattle.plevent.specs.Search.{Answer, Finishes}
 use Rattle.plevent.specs.declared.request.ThreadEnd.{ThreadEnd}
+use Rattle.plevent.specs.declared.act.Entry.{Entry}
+use Rattle.plevent.specs.declared.standing.Thread.{Thread}
+use Rattle.plevent.specs.Reading.{reading, is_thread}
 use Rattle.plprogram.specs.Program.{Program}
 use Rattle.plsearch.specs.Types.{Result, Resolvent, Case, Choice, Mark, Handle, Catch, Supply}
 use Rattle.plsearch.specs.Engine.{walk, deeper, Visit}
 use Rattle.plsearch.specs.Machines.Machine.{Machine, At, Back, Rest, turn}
 use Rattle.plsearch.specs.Machines.Levels.{AreAtMost, emptied}
 use Rattle.plsearch.specs.Machines.Weight.{Lighter}
-use Rattle.plsearch.specs.Search.{search_of}
+use Rattle.plsearch.specs.Search.{Start, main_start, search_of}
+use Rattle.plsearch.specs.Starts.{start_by, start_in}
 use Rattle.plsearch.specs.Halts.{HaltsNoSooner, HaltsWhenDone}
 
 -- a list is visited by one walk, and what comes behind a step or an answer by the search again
@@ -26,8 +30,8 @@ TurnsEnd = (P : Program) (m : Machine) → ((r : Result) → m.mode ≡ Back r �
 
 -- a search that has ended ignores further answers
 abbrev pub EndsIgnoreAnswers : Type 0
-EndsIgnoreAnswers = (P : Program) (limit n : ℕ) (answers further : List Answer) (e : ThreadEnd) →
-    (search_of P limit n answers).next ≡ Finishes e → search_of P limit n (answers ++ further) ≡ search_of P limit n answers
+EndsIgnoreAnswers = (P : Program) (s : Start) (limit n : ℕ) (answers further : List Answer) (e : ThreadEnd) →
+    (search_of P s limit n answers).next ≡ Finishes e → search_of P s limit n (answers ++ further) ≡ search_of P s limit n answers
 
 -- Where a list is visited behind a cut to the level k, and names no level above it, the choice at that level and all cases that
 -- are open inside of it may be emptied: nothing of them is tried or caught any more.
@@ -43,4 +47,12 @@ CatchersEmpty = (P : Program) (k : ℕ) (c r : Tree) (q : Resolvent) (cs below :
 
 -- The search ends the run where it has asked for that and is told that it is done, and in no other way.
 abbrev pub EndsRunWhenDone : Type 0
-EndsRunWhenDone = (P : Program) (limit : ℕ) → HaltsWhenDone (search_of P limit) × HaltsNoSooner (search_of P limit)
+EndsRunWhenDone = (P : Program) (s : Start) (limit : ℕ) → HaltsWhenDone (search_of P s limit) × HaltsNoSooner (search_of P s limit)
+
+-- where a thread starts is settled once it is created, whatever entries come behind
+abbrev pub StartsStay : Type 0
+StartsStay = (P : Program) (h more : List Entry) (t : ℕ) (x : Thread) → find (is_thread t) (reading h).standing.threads ≡ Some x → start_in P (h ++ more) t ≡ start_by P x
+
+-- and thread 1 is main in each journal
+abbrev pub MainStarts : Type 0
+MainStarts = (P : Program) (h : List Entry) → start_in P h 1 ≡ main_start P

@@ -10,6 +10,7 @@ pub mod Replies
 pub mod Handlers
 pub mod Engine
 pub mod Search
+pub mod Starts
 pub mod Solving
 pub mod Machines
 pub mod Halts

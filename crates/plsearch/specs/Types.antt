@@ -1,5 +1,5 @@
 -- The values that the search is about.
-use Rattle.std.specs.Prelude.{ℕ, List}
+use Rattle.std.specs.Prelude.{ℕ, List, Option}
 use Rattle.plterm.specs.Tree.{Tree}
 use Rattle.plevent.specs.Search.{Item, Answer}
 use Rattle.plevent.specs.declared.request.Request.{Request}
@@ -87,9 +87,15 @@ pub record Kept : Type 0 where
   pub level : ℕ
   pub copy : Tree
 
--- what a thread has besides its steps and answers: its output, its operators and flags, the copies that are kept, the latest last, and
--- the own updates of its open transactions
+-- a thread: its number, and its alias if it has one
+pub record Who : Type 0 where
+  pub number : ℕ
+  pub alias : Option (List ℕ)
+
+-- what a thread has besides its steps and answers: which it is, its output, its operators and flags, the copies that are kept, the latest
+-- last, and the own updates of its open transactions
 pub record Local : Type 0 where
+  pub who : Who
   pub out : List ℕ
   pub settings : Settings
   pub kept : List Kept

@@ -4,11 +4,11 @@
 //! It has no code. `specs/Forms.antt` says what a goal is, `specs/Rows.antt` has a row for each form of goal and each element of a
 //! list, over the moves of `specs/Moves.antt` and the look-ups of `specs/Lookups.antt`; `specs/Replies.antt` says what an element that
 //! asked makes of its answer, and `specs/Handlers.antt` what a handler makes of a result. `specs/Engine.antt` is the search over these
-//! rows, and `specs/Search.antt` main's search as the journal sees it. `specs/Machines` does the same search one row at a time, for the
-//! laws and for proofs.
+//! rows, `specs/Search.antt` the search from a start as the journal sees it, and `specs/Starts.antt` where the threads of a journal start.
+//! `specs/Machines` does the same search one row at a time, for the laws and for proofs.
 #![tactic(auto)]
 
-ghost use Rattle.plsearch.specs.Laws.{VisitsByWalks, TurnsKeepRest, TurnsEnd, EndsIgnoreAnswers, CutsEmpty, CatchersEmpty, EndsRunWhenDone};
+ghost use Rattle.plsearch.specs.Laws.{VisitsByWalks, TurnsKeepRest, TurnsEnd, EndsIgnoreAnswers, CutsEmpty, CatchersEmpty, EndsRunWhenDone, StartsStay, MainStarts};
 
 /// A list of goals is visited by one walk, and what comes behind a step or an answer by the search again.
 #[tactic(auto, using(crate::proofs::Fuel::laws))]
@@ -49,4 +49,11 @@ pub fn catchers_empty()
 /// A search that asks to end the run has ended so once that is done, and ends the run in no other way.
 pub fn ends_run_when_done()
     ensures { EndsRunWhenDone }
+{}
+
+/// Where a thread starts is settled once it is created; and thread 1 of each journal is main, with the program's goals.
+#[tactic(auto, using(crate::proofs::Starts::laws))]
+pub fn starts_stay()
+    ensures stays { StartsStay }
+    ensures begins { MainStarts }
 {}

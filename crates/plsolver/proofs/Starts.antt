@@ -9,10 +9,10 @@ use Rattle.pltx.specs.Own.{any_open, nothing}
 use Rattle.plviews.specs.Layers.{bottom, Layered}
 use Rattle.plviews.specs.declared.view.View.{View}
 use Rattle.plprogram.specs.Program.{Program}
-use Rattle.plsearch.specs.Types.{Goal, Resolvent, Choice}
+use Rattle.plsearch.specs.Types.{Goal, Resolvent, Choice, Who}
 use Rattle.plsearch.specs.Engine.{out, outs}
 use Rattle.plsearch.specs.Machines.Machine.{At, Rest}
-use Rattle.plsearch.specs.Search.{once, start_from, start_of, search_of, ending_of}
+use Rattle.plsearch.specs.Search.{Start, once, start_from, start_of, search_of, ending_of}
 use Rattle.plsearch.specs.Solving.{Begins}
 use Rattle.plcode.specs.Callees.{IsProgramCode}
 use Rattle.pllinks.specs.declared.link.Continuation.{Continuation}
@@ -75,6 +75,13 @@ starts-goal old st new list made v g t e is same grown l adds = record {
   cases = λ db. adds.stays.cases db ∙ e.cases db;
 }
 
+-- a start with a goal of its own
+pub none-there : (s : State) (none : Continuation) → IsEmpty s → none ≡ alone 0 → IsList s none
+none-there s none empty is = subst (IsList s) (sym is) (starts-empty s empty).list_there
+
+pub starts-one : (s new : State) (none made : Continuation) (g : Tree) → IsEmpty s → none ≡ alone 0 → StartsGoal s new none made g → Starts new made (g ∷ [])
+starts-one s new none made g empty is one = starts-more s new none made g [] (subst (λ l. Starts s l []) (sym is) (starts-empty s empty)) one
+
 -- the goals fit in the outermost choice, and end nothing
 start-fits : (gs : List Tree) → FitsIn (Choosing ∷ []) (start_from gs).goals
 unfolding start_from
@@ -100,8 +107,8 @@ start-tied s latest starts layer = record {
     none = ap (λ (v : View). v.count) latest
 
 -- a machine at the start
-module _ (P : Program) (s : Reached) (stack opened : State) (list : Continuation) (code : IsProgramCode P stack.basis.code) (latest : stack.basis.latest ≡ record { place = 0; count = 0 }) (begun : stack.basis.starts ≡ []) (frames : stack.frames ≡ [])
-    (starts : Starts stack list P.goals) (o : Opens stack opened (Choice [] ∷ [])) (is : s.stack ≡ record opened { goals = list }) (layer : s.layer ≡ bottom) (at : s.mode ≡ modes.Visit) (out : s.out.items ≡ []) (settings : s.settings ≡ P.settings) (kept : s.kept ≡ []) where
+module _ (P : Program) (from : Start) (s : Reached) (stack opened : State) (list : Continuation) (code : IsProgramCode P stack.basis.code) (latest : stack.basis.latest ≡ record { place = 0; count = 0 }) (begun : stack.basis.starts ≡ []) (frames : stack.frames ≡ [])
+    (starts : Starts stack list from.goals) (o : Opens stack opened (Choice [] ∷ [])) (is : s.stack ≡ record opened { goals = list }) (layer : s.layer ≡ bottom) (at : s.mode ≡ modes.Visit) (out : s.out.items ≡ []) (settings : s.settings ≡ P.settings) (kept : s.kept ≡ []) (who : record { number = s.thread; alias = s.alias } ≡ from.who) where
   basis-is : s.stack.basis ≡ stack.basis
   basis-is = ap (λ (st : State). st.basis) is ∙ o.basis
 
@@ -124,12 +131,13 @@ module _ (P : Program) (s : Reached) (stack opened : State) (list : Continuation
       let db : Database = database_of P v s.layer.own.updates in
       ap (cases_of db) is ∙ o.cases db ∙ ap (λ cs. Choice [] ∷ cs) (starts.cases db)
 
-  start-local : local_of s ≡ record { out = []; settings = P.settings; kept = []; own = nothing }
+  start-local : local_of s ≡ record { who = from.who; out = []; settings = P.settings; kept = []; own = nothing }
   start-local =
-      ap₂ (λ o x. record { out = o; settings = x; kept = s.kept; own = s.layer.own }) out settings
-      ∙ ap₂ (λ k (x : Layered). record { out = []; settings = P.settings; kept = k; own = x.own }) kept layer
+      ap (λ (w : Who). record { who = w; out = s.out.items; settings = s.settings; kept = s.kept; own = s.layer.own }) who
+      ∙ ap₂ (λ o x. record { who = from.who; out = o; settings = x; kept = s.kept; own = s.layer.own }) out settings
+      ∙ ap₂ (λ k (x : Layered). record { who = from.who; out = []; settings = P.settings; kept = k; own = x.own }) kept layer
 
-  pub is-start : IsStart P s
+  pub is-start : IsStart P from s
   unfolding start_of
   is-start = record {
     of = start-of;
@@ -137,15 +145,15 @@ module _ (P : Program) (s : Reached) (stack opened : State) (list : Continuation
     layer = layer;
     walks = ap walks_in is ∙ o.walks ∙ ap (λ fs. walks_of (reverse fs)) frames;
     is = λ v left answers.
-        machine-is P v s (At (start_of P)) (Choice [] ∷ []) [] (record { out = []; settings = P.settings; kept = []; own = nothing }) (subst IsPlain (sym at) tt)
+        machine-is P v s (At (start_of from)) (Choice [] ∷ []) [] (record { who = from.who; out = []; settings = P.settings; kept = []; own = nothing }) (subst IsPlain (sym at) tt)
         (ap₂ mode_of at is ∙ ap At (ap₂ (λ gs n. record { goals = gs; variables = n }) (o.lists list starts.list_there).1 o.count ∙ starts.place))
         (start-cases v) (below-as v (record s { layer = bottom }) s layer) start-local left answers;
   }
 
 -- a solver at the start
-pub begins : (P : Program) (v : Views) (s : Progress) → IsStart P s.machine → s.used ≡ 0 → Begins (search_of P s.limit) (rest_of P v s) s.used
+pub begins : (P : Program) (from : Start) (v : Views) (s : Progress) → IsStart P from s.machine → s.used ≡ 0 → Begins (search_of P from s.limit) (rest_of P v s) s.used
 unfolding search_of rest_of Rest outs out start_of
-begins P v s start used = (
+begins P from v s start used = (
   used,
   λ n answers.
       let k : ℕ = min n s.limit in

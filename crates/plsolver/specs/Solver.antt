@@ -29,8 +29,10 @@ use Rattle.plsearch.specs.Machines.Machine.{At, Back, Rest, return}
 use Rattle.plsearch.specs.Machines.Weight.{weight}
 use Rattle.plsearch.specs.Replies.{Served, Late, outcome}
 use Rattle.plsearch.specs.Solving.{Goes}
-use Rattle.plsearch.specs.Search.{ending_of, from_start, once, start_from, start_of}
+use Rattle.plsearch.specs.Search.{Start as StartOf, ending_of, from_start, once, start_from, start_of, start_with}
 use Rattle.pllinks.specs.declared.link.Continuation.{Continuation}
+use Rattle.plcode.specs.Callees.{Compiled, IsProgramCode}
+use Rattle.plcode.specs.Steps.{goals_from}
 use Rattle.plstack.specs.Places.{Database}
 use Rattle.plstack.specs.State.{State, cases_of, goals_in, goals_of, walks_in, HasAnswers, HasBranch, HasClauses, IsList}
 use Rattle.plstack.specs.declared.first.First.{First}
@@ -55,6 +57,7 @@ use Rattle.plsolver.specs.declared.progress.Due.TheVariants as dues
 use Rattle.plsolver.specs.declared.progress.Pause.{Pause}
 use Rattle.plsolver.specs.declared.progress.Pause.TheVariants as pauses
 use Rattle.plsolver.specs.declared.progress.Progress.{Progress}
+use Rattle.plsolver.specs.declared.solver.Start.{Start as Given}
 use Rattle.plsolver.specs.Fetching.{IsFetching}
 
 -- the rest of its search, where the views are these, by a limit of steps from the start and the answers to come
@@ -66,6 +69,11 @@ rest_of P v s n answers = ending_of (min n s.limit) (Rest P (machine P v (min n 
 pub record IsOf (P : Program) (s : Reached) : Type 0 where
   pub begun : IsBegun P s
   pub sound : IsMachine s
+
+-- the code is the program's, and nothing is left behind its last step
+pub record IsSharedOf (P : Program) (code : Compiled) : Type 0 where
+  pub code_of : IsProgramCode P code
+  pub none : goals_from code.text 0 0 ≡ []
 
 -- the latest place whose view is kept
 abbrev pub latest_view : Progress → ℕ
@@ -282,10 +290,14 @@ pub record StartsGoal (old new : State) (list made : Continuation) (g : Tree) : 
   pub count : new.env.count ≡ old.env.count + length (variables g)
   pub cases : (db : Database) → cases_of db new ≡ cases_of db old
 
--- a machine at the start of a program's search
-pub record IsStart (P : Program) (s : Reached) : Type 0 where
+-- the start that is given
+abbrev pub start_given : Program → Given → StartOf
+start_given P s = start_with P (record { number = s.thread; alias = s.alias }) s.goal
+
+-- a machine at the start of a search
+pub record IsStart (P : Program) (start : StartOf) (s : Reached) : Type 0 where
   pub of : IsOf P s
   pub latest : s.stack.basis.latest.place ≡ 0
   pub layer : s.layer ≡ bottom
   pub walks : walks_in s.stack ≡ []
-  pub is : (v : Views) (left : ℕ) (answers : List Answer) → machine P v left answers s ≡ record { mode = At (start_of P); cases = Choice [] ∷ []; run = from_start P left answers }
+  pub is : (v : Views) (left : ℕ) (answers : List Answer) → machine P v left answers s ≡ record { mode = At (start_of start); cases = Choice [] ∷ []; run = from_start P start left answers }

@@ -8,6 +8,7 @@ mod fetch;
 pub mod laws;
 mod look;
 pub mod progress;
+pub mod shared;
 pub mod solver;
 mod start;
 mod step;

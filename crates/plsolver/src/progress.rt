@@ -13,10 +13,11 @@ ghost use Rattle.plmachine.specs.Machine.{IsPlain};
 ghost use Rattle.plsolver.specs.Advancing.{AdvancesInPart, AdvancesTo, SettlesTo, StepsOn, StepsTo};
 ghost use Rattle.plsolver.specs.Asking.{activations, in_cases, Further, Onward};
 ghost use Rattle.plsolver.specs.declared.progress.Selected.TheVariants as TheSelected;
-ghost use Rattle.plsolver.specs.Solver.{first_of, GoesTo, IsOf, IsSelected, Selects, Stays, latest_view, rest_of, Settled};
+ghost use Rattle.plsolver.specs.Solver.{first_of, GoesTo, IsOf, IsSelected, IsSharedOf, Selects, Stays, latest_view, rest_of, Settled, start_given};
 ghost use Rattle.plsolver.specs.Says.{Says, IsSlice};
 
-use crate::solver::Turn;
+use crate::shared::Shared;
+use crate::solver::{Start, Turn};
 use crate::start::start;
 use plcells::cell::Cell;
 use plcode::op::Step;
@@ -75,16 +76,23 @@ pub enum Pause {
 }
 
 impl Progress {
-    /// The search of main: the program's goals in order, each once, with at most so many steps.
-    pub fn new(alloc: Global, program: &Program, limit: u64) -> Result<Self, AllocError>
-        ensures begins { IfOk result (λ s. (v : Views) → Begins (search_of program.now limit) (rest_of program.now v s) s.used) }
+    /// The search from a start: its goals in order, each once, with at most so many steps.
+    pub fn new(
+        alloc: Global,
+        shared: &Shared,
+        program: &Program,
+        given: Start,
+        limit: u64,
+    ) -> Result<Self, AllocError>
+        requires { IsSharedOf program.now shared.now }
+        ensures begins { IfOk result (λ s. (v : Views) → Begins (search_of program.now (start_given program.now given) limit) (rest_of program.now v s) s.used) }
         ensures of { IfOk result (λ s. IsOf program.now s.machine) }
         ensures latest { IfOk result (λ s. latest_view s ≡ 0) }
         ensures limit { IfOk result (λ s. s.limit ≡ limit) }
         ensures places { IfOk result (λ s. s.places.items ≡ []) }
         ensures walks { IfOk result (λ s. walks_in s.machine.stack ≡ []) }
     {
-        let machine = start(alloc, program)?;
+        let machine = start(alloc, shared, program, given)?;
         Ok(Progress {
             machine,
             used: 0,

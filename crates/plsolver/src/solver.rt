@@ -10,16 +10,19 @@ ghost use Rattle.plprogram.specs.Program.{Program as Given};
 ghost use Rattle.plsearch.specs.Search.{search_of};
 ghost use Rattle.plsearch.specs.Solving.{Begins, Goes, TakesOne};
 ghost use Rattle.plsolver.specs.Fetching.{Fetches, IsFoundFor};
-ghost use Rattle.plsolver.specs.Solver.{GoesTo, IsOf, Stays, latest_view, rest_of, WaitsForView, ReplyFits};
+ghost use Rattle.plsolver.specs.Solver.{GoesTo, IsOf, IsSharedOf, Stays, latest_view, rest_of, WaitsForView, ReplyFits, start_given};
 ghost use Rattle.plsolver.specs.Advancing.{AdvancesInPart, AdvancesTo};
 ghost use Rattle.plsolver.specs.Asking.{AsksNext};
 ghost use Rattle.plsolver.specs.Says.{Says, IsSlice};
 
 use crate::progress::Progress;
-use plevent::JournalPlace;
+use crate::shared::Shared;
 use plevent::request::{Reply, Request, ThreadEnd};
+use plevent::{JournalPlace, ThreadId};
 use plprogram::program::Program;
 use plstore::{Found, Query};
+use plterm::name::Name;
+use plterm::term::Term;
 use std::alloc::{AllocError, Global};
 use std::marker::Model;
 use std::mem::replace;
@@ -57,17 +60,35 @@ pub enum Turn {
     Ended(ThreadEnd),
 }
 
+/// Where a search starts.
+#[derive(Drop)]
+pub struct Start {
+    /// Its thread, and the thread's alias, if it has one.
+    pub thread: ThreadId,
+    pub alias: Option<Name>,
+    /// The goal of a thread that was created. Main has none of its own: its goals are the program's.
+    pub goal: Option<Term>,
+}
+
 impl Solver {
-    /// The search of main: the program's goals in order, each once, with at most so many steps.
-    pub fn new(alloc: Global, program: &Program, limit: u64) -> Result<Solver, AllocError>
-        ensures begins { IfOk result (λ s. (v : Views) → Begins (search_of program.now limit) (rest_of program.now v s) s.used) }
+    /// The search from a start: its goals in order, each once, with at most so many steps. The code is the program's, and shared with its other
+    /// solvers.
+    pub fn new(
+        alloc: Global,
+        shared: &Shared,
+        program: &Program,
+        start: Start,
+        limit: u64,
+    ) -> Result<Solver, AllocError>
+        requires { IsSharedOf program.now shared.now }
+        ensures begins { IfOk result (λ s. (v : Views) → Begins (search_of program.now (start_given program.now start) limit) (rest_of program.now v s) s.used) }
         ensures of { IfOk result (λ s. IsOf program.now s.machine) }
         ensures latest { IfOk result (λ s. latest_view s ≡ 0) }
         ensures limit { IfOk result (λ s. s.limit ≡ limit) }
         ensures places { IfOk result (λ s. s.places.items ≡ []) }
         ensures walks { IfOk result (λ s. walks_in s.machine.stack ≡ []) }
     {
-        let progress = Progress::new(alloc, program, limit)?;
+        let progress = Progress::new(alloc, shared, program, start, limit)?;
         Ok(Solver { progress })
     }
 

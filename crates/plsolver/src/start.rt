@@ -1,12 +1,14 @@
 //! Where a search starts.
 
-ghost use Rattle.std.specs.Prelude.{◌≡◌, IfOk};
-ghost use Rattle.plcode.specs.Callees.{IsProgramCode};
-ghost use Rattle.plsearch.specs.Search.{once as once_of};
+ghost use Rattle.std.specs.Prelude.{◌≡◌, [], IfOk};
+ghost use Rattle.plcode.specs.Steps.{goals_from};
+ghost use Rattle.plsearch.specs.Search.{goals_for, once as once_of};
 ghost use Rattle.plstack.specs.State.{IsList};
-ghost use Rattle.plsolver.specs.Solver.{IsStart, IsEmpty, Starts, StartsGoal};
+ghost use Rattle.plsolver.specs.Solver.{IsSharedOf, IsStart, IsEmpty, Starts, StartsGoal, start_given};
 
-use plcode::program::ProgramCode;
+use crate::shared::Shared;
+use crate::solver::Start;
+use plcode::program::{ProgramCode, SharedCode};
 use plcollect::collection::Collection;
 use plenv::env::Environment;
 use pllinks::item::Portion;
@@ -21,17 +23,30 @@ use plterm::term::Term;
 use plviews::Layer;
 use std::alloc::{AllocError, Global};
 
-/// The machine of a program's search: its goals in order, each once, in a choice with nothing left.
-pub fn start(alloc: Global, program: &Program) -> Result<Machine, AllocError>
-    ensures { IfOk result (λ s. IsStart program.now s) }
+/// The machine of a search: the goals of its start in order, each once, in a choice with nothing left.
+pub fn start(
+    alloc: Global,
+    shared: &Shared,
+    program: &Program,
+    given: Start,
+) -> Result<Machine, AllocError>
+    requires { IsSharedOf program.now shared.now }
+    ensures { IfOk result (λ s. IsStart program.now (start_given program.now given) s) }
 {
-    let mut stack = empty(alloc, program)?;
-    let list = start_goals(&mut stack, alloc, program.goals())?;
+    let Start {
+        thread,
+        alias,
+        goal,
+    } = given;
+    let mut stack = empty(alloc, shared.code())?;
+    let list = first_goals(&mut stack, alloc, program, &goal)?;
     let settings = program.settings().copied(alloc)?;
     stack.open_plain()?;
     stack.visit(list);
     Ok(Machine {
         alloc,
+        thread,
+        alias,
         stack,
         layer: Layer::new(alloc),
         mode: Mode::Visit,
@@ -52,13 +67,35 @@ fn environment_of(alloc: Global, code: &ProgramCode) -> Result<Environment, Allo
 }
 
 /// A stack with nothing on it, of a program's code.
-fn empty(alloc: Global, program: &Program) -> Result<Stack, AllocError>
+fn empty(alloc: Global, code: &SharedCode) -> Result<Stack, AllocError>
+    requires { goals_from code.now.text 0 0 ≡ [] }
     ensures empty { IfOk result (λ s. IsEmpty s) }
-    ensures code { IfOk result (λ s. IsProgramCode program.now s.basis.code) }
+    ensures code { IfOk result (λ s. s.basis.code ≡ code.now) }
 {
-    let code = ProgramCode::new(alloc, program)?;
-    let env = environment_of(alloc, &code)?;
+    let env = environment_of(alloc, code.code())?;
+    let code = code.copied()?;
     Stack::new(alloc, code, env)
+}
+
+/// The list of a thread's goal, or of the program's goals where it has none of its own.
+fn first_goals(
+    stack: &mut Stack,
+    alloc: Global,
+    program: &Program,
+    goal: &Option<Term>,
+) -> Result<Continuation, AllocError>
+    requires { IsEmpty stack.old }
+    ensures starts { IfOk result (λ list. Starts stack.new list (goals_for program.now goal.now)) }
+    ensures basis { stack.new.basis ≡ stack.old.basis }
+    ensures frames { stack.new.frames ≡ stack.old.frames }
+{
+    match goal {
+        None => start_goals(stack, alloc, program.goals()),
+        Some(goal) => {
+            let none = Continuation::alone(ListId::EMPTY);
+            start_goal(stack, alloc, goal, none)
+        }
+    }
 }
 
 /// The list of goals, each once.

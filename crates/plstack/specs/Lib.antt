@@ -17,3 +17,4 @@ pub mod Linking
 pub mod Trials
 pub mod Walks
 pub mod Answering
+pub mod Keys

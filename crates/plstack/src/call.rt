@@ -29,7 +29,7 @@ use crate::key::first_key;
 use crate::open::{count_up, deeper, push_within};
 use crate::stack::Stack;
 use plcells::cell::Cell;
-use plcode::program::ProgramCode;
+use plcode::program::SharedCode;
 use plenv::env::Environment;
 use plenv::slot::Mark;
 use plhead::head::Matcher;
@@ -87,7 +87,7 @@ fn first_hit(
 fn fit_first(
     env: &mut Environment,
     matcher: &mut Matcher,
-    code: &ProgramCode,
+    code: &SharedCode,
     goal: &Goal<'_>,
     mark: Mark,
 ) -> Result<Option<Hit>, AllocError>
@@ -104,6 +104,7 @@ fn fit_first(
     ensures env { IsEnv env.new }
 {
     let _ = env.heap();
+    let code = code.code();
     let Some(procedure) = code.procedure(goal.procedure) else {
         return Ok(None);
     };
@@ -347,7 +348,7 @@ impl Stack {
         ensures same { self.new ≡ record self.old { env = self.new.env } }
     {
         let Calling { point, call } = *at;
-        let Some(procedure) = self.basis.code.procedure(call.procedure) else {
+        let Some(procedure) = self.basis.code.code().procedure(call.procedure) else {
             return Ok(None);
         };
         if call.next > procedure.clauses().len() {
@@ -357,7 +358,7 @@ impl Stack {
         let values = &self.saved[first..first + call.count as usize];
         let attempt = Attempt {
             procedure,
-            nodes: self.basis.code.nodes(),
+            nodes: self.basis.code.code().nodes(),
             key: first_key(self.env.heap(), values),
             values,
             mark: point.marks.env,

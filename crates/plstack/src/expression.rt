@@ -28,7 +28,7 @@ impl Stack {
         ensures none { (r : OfRun) (t : Tree) → IsArgument self.now r node t → IfNone result ((f : List ℕ) (a b : Tree) → t ≡ compound f (trees (a ∷ b ∷ [])) → ⊥) }
     {
         let _ = self.env.heap();
-        pair_at(self.basis.code.nodes(), node)
+        pair_at(self.basis.code.code().nodes(), node)
     }
 
     /// What the term of a node of a clause, whose slots are those of a run, comes to as an expression, or its error (ISO/IEC 13211-1 7.9, 9.1.4).
@@ -42,7 +42,13 @@ impl Stack {
         ensures { (t : Tree) → IsArgument self.now run.now node t → IfOk result (λ found. found ≡ eval (bind (over self.now.env run.now.base) t)) }
     {
         let _ = self.env.heap();
-        eval_node(alloc, &self.env, self.basis.code.nodes(), node, run.base)
+        eval_node(
+            alloc,
+            &self.env,
+            self.basis.code.code().nodes(),
+            node,
+            run.base,
+        )
     }
 
     /// Unifies the term of a node of a clause, whose slots are those of a run, with an integer's value: whether they have a unifier. Where they have
@@ -63,7 +69,13 @@ impl Stack {
         ensures heap { (t : Tree) → IsArgument self.old run.now node t → IsOffHeap self.old.env run.now.base t → self.new.env.heap ≡ self.old.env.heap }
     {
         let _ = self.env.heap();
-        let fits = unify_number(&mut self.env, self.basis.code.nodes(), node, run.base, v);
+        let fits = unify_number(
+            &mut self.env,
+            self.basis.code.code().nodes(),
+            node,
+            run.base,
+            v,
+        );
         let _ = self.env.heap();
         fits
     }

@@ -68,7 +68,7 @@ impl Stack {
         ensures none { IfNone result (run_goals (goals_in self.now) run ≡ []) }
         ensures state { IsState self.now }
     {
-        let step = self.basis.code.step(run.position);
+        let step = self.basis.code.code().step(run.position);
         if let Op::Proceed = step.op {
             return None;
         }

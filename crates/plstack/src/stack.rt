@@ -12,7 +12,7 @@ use crate::basis::Basis;
 use crate::copier::Copier;
 use crate::frame::{Frame, Handler, Resume};
 use plcells::cell::Cell;
-use plcode::program::ProgramCode;
+use plcode::program::{ProgramCode, SharedCode};
 use plenv::env::Environment;
 use plhead::head::Matcher;
 use pllinks::level::Level;
@@ -53,7 +53,7 @@ impl Model for Stack {
 
 impl Stack {
     /// A stack with nothing on it, of a program's code, over an environment with the names of the code.
-    pub fn new(alloc: Global, code: ProgramCode, env: Environment) -> Result<Stack, AllocError>
+    pub fn new(alloc: Global, code: SharedCode, env: Environment) -> Result<Stack, AllocError>
         requires names { ExtendsNames code.text.names env.heap.names }
         requires none { goals_from code.text 0 0 ≡ [] }
         ensures { IfOk result (λ s. s ≡ record { basis = record { code = code; latest = record { place = 0; count = 0 }; starts = [] }; env = env; links = []; saved = []; frames = []; goals = alone 0 }) }
@@ -82,7 +82,7 @@ impl Stack {
         ensures is { result.now ≡ self.now.basis.code }
         ensures names { ExtendsNames self.now.basis.code.text.names self.now.env.heap.names }
     {
-        &self.basis.code
+        self.basis.code.code()
     }
 
     /// From now on a walk may go on in this view.

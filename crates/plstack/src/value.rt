@@ -77,7 +77,7 @@ impl Stack {
         let _ = self.env.heap();
         let put = self
             .env
-            .put_goal(self.basis.code.nodes(), node, run.base, values);
+            .put_goal(self.basis.code.code().nodes(), node, run.base, values);
         let _ = self.env.heap();
         put
     }
@@ -91,7 +91,9 @@ impl Stack {
         ensures stays { Extends self.old self.new }
     {
         let _ = self.env.heap();
-        let put = self.env.put_node(self.basis.code.nodes(), node, run.base);
+        let put = self
+            .env
+            .put_node(self.basis.code.code().nodes(), node, run.base);
         let _ = self.env.heap();
         put
     }

@@ -19,7 +19,7 @@ use Rattle.plsearch.specs.Rows.{select, asked, erasing, published, meet}
 use Rattle.plsearch.specs.Replies.{Outcome, Served, Late, Stops, Misfits, outcome, follows, answered, founded}
 use Rattle.plsearch.specs.Handlers.{resume}
 use Rattle.plsearch.specs.Engine.{out, outs, deeper, left}
-use Rattle.plsearch.specs.Search.{start_from, start_of, ending_of, search_of}
+use Rattle.plsearch.specs.Search.{Start, start_from, start_of, ending_of, search_of}
 use Rattle.plsearch.specs.Machines.Machine.{Mode, At, Back, Machine, Rest, move, step, ask, meets, visits, choose, return, backs, turn_in, turn}
 use Rattle.plsearch.specs.Machines.Weight.{weight, Lighter}
 use Rattle.pltransactions.specs.Laws.{turns, machine_of, IsReached, SearchByTurns, asked_by, asked_first, asked_in, left_of, TakesWhatItAsks, WaitsForWhatItAsks, IsOfClauses, OpenAsksNoClauses, OpenAnswersStay, its_updates, OuterEndPublishes, InnerEndAsksNothing, ends, OpenHaveEnds, UndoEndsOne, NothingLeftOpen}
@@ -30,7 +30,7 @@ use Rattle.pltransactions.proofs.Balls.{named_with, named, HandlersFit}
 use Rattle.pltransactions.proofs.Fitting.{CasesFit, PlaceFits, ResultFits, ModeFits, Fitting, stands-ended}
 use Rattle.pltransactions.proofs.FittingTurns.{inner-updates, turn-fits}
 
--- main's machine fits at its start, and so do those that it comes to
+-- a machine fits at its start, and so do those that it comes to
 start-list : (gs : List Tree) → Fits (entry 0 Choosing ∷ []) (start_from gs).goals
 unfolding Fits start_from
 start-list [] = refl
@@ -41,11 +41,11 @@ unfolding FitsFirst start_from
 first-list x [] = refl
 first-list x (g ∷ gs) = start-list (g ∷ gs)
 
-start-fits : (P : Program) (steps : ℕ) (answers : List Answer) → Fitting (machine_of P steps answers)
+start-fits : (P : Program) (s : Start) (steps : ℕ) (answers : List Answer) → Fitting (machine_of P s steps answers)
 unfolding CasesFit around start_of
-start-fits P steps answers = record {
+start-fits P s steps answers = record {
   outside = (tt, tt);
-  here = record { list = first-list nothing P.goals; open_here = record { count = refl; none = λ is. refl } };
+  here = record { list = first-list nothing s.goals; open_here = record { count = refl; none = λ is. refl } };
 }
 
 turns-fit : (P : Program) (k : ℕ) (m : Machine) → Fitting m → Fitting (turns P k m)
@@ -53,7 +53,7 @@ turns-fit P zero m fit = fit
 turns-fit P (suc k) m fit = turns-fit P k (turn P m) (turn-fits P m fit)
 
 reached-fits : (P : Program) (m : Machine) → IsReached P m → Fitting m
-reached-fits P m (steps, answers, k, is) = subst Fitting (sym is) (turns-fit P k (machine_of P steps answers) (start-fits P steps answers))
+reached-fits P m (s, steps, answers, k, is) = subst Fitting (sym is) (turns-fit P k (machine_of P s steps answers) (start-fits P s steps answers))
 
 -- the machine comes to the end of its turns
 abbrev Finishes : Program → Machine → Type 0
@@ -103,8 +103,8 @@ turns-rest P (suc k) m = Rest-turn P m ∙ turns-rest P k (turn P m)
 
 pub search-by-turns : SearchByTurns
 unfolding search_of Rest outs out
-search-by-turns P limit n answers =
-    let start = machine_of P (min n limit) answers in
+search-by-turns P s limit n answers =
+    let start = machine_of P s (min n limit) answers in
     let end = finishes P (suc (left start.run)) start (omega arith) in
     (end.0, end.1, end.2, end.3, ap (ending_of (min n limit)) (turns-rest P end.0 start ∙ ap (Rest P) end.3))
 

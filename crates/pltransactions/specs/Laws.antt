@@ -1,4 +1,4 @@
--- The laws of transactions and snapshots, over the turns of main's machine.
+-- The laws of transactions and snapshots, over the turns of a search's machine.
 use Rattle.std.specs.Prelude.{◌≡◌, ℕ, zero, suc, min, true, false, List, [], ◌∷◌, length, Option, Some, None}
 use Rattle.plevent.specs.Search.{Item, View, Ask, Answer}
 use Rattle.plevent.specs.declared.request.Request.TheVariants.{Publish, EraseOne}
@@ -13,7 +13,7 @@ use Rattle.plsearch.specs.Moves.{publishing}
 use Rattle.plsearch.specs.Rows.{meet}
 use Rattle.plsearch.specs.Handlers.{has}
 use Rattle.plsearch.specs.Engine.{deeper}
-use Rattle.plsearch.specs.Search.{start_of, from_start, ending_of, search_of}
+use Rattle.plsearch.specs.Search.{Start, start_of, from_start, ending_of, search_of}
 use Rattle.plsearch.specs.Machines.Machine.{Mode, At, Back, Machine, turn}
 
 -- after so many turns
@@ -21,19 +21,19 @@ abbrev pub turns : Program → ℕ → Machine → Machine
 turns P zero m = m
 turns P (suc k) m = turns P k (turn P m)
 
--- main's machine at its start, with so many steps and these answers
-abbrev pub machine_of : Program → ℕ → List Answer → Machine
-machine_of P steps answers = record { mode = At (start_of P); cases = Choice [] ∷ []; run = from_start P steps answers }
+-- the machine of a search at its start, with so many steps and these answers
+abbrev pub machine_of : Program → Start → ℕ → List Answer → Machine
+machine_of P s steps answers = record { mode = At (start_of s); cases = Choice [] ∷ []; run = from_start P s steps answers }
 
--- main's machine comes to it
+-- the machine of some search comes to it
 abbrev pub IsReached : Program → Machine → Type 0
-IsReached P m = (steps : ℕ) × (answers : List Answer) × (k : ℕ) × (m ≡ turns P k (machine_of P steps answers))
+IsReached P m = (s : Start) × (steps : ℕ) × (answers : List Answer) × (k : ℕ) × (m ≡ turns P k (machine_of P s steps answers))
 
 -- the machine's turns end as the search does
 abbrev pub SearchByTurns : Type 0
-SearchByTurns = (P : Program) (limit n : ℕ) (answers : List Answer) → (k : ℕ) × (r : Result) × (run : Supply)
-    × (turns P k (machine_of P (min n limit) answers) ≡ record { mode = Back r; cases = []; run = run })
-    × (search_of P limit n answers ≡ ending_of (min n limit) (r, run))
+SearchByTurns = (P : Program) (s : Start) (limit n : ℕ) (answers : List Answer) → (k : ℕ) × (r : Result) × (run : Supply)
+    × (turns P k (machine_of P s (min n limit) answers) ≡ record { mode = Back r; cases = []; run = run })
+    × (search_of P s limit n answers ≡ ending_of (min n limit) (r, run))
 
 -- what a machine asks for at its next turn
 abbrev pub asked_by : Meeting → Option Item
@@ -151,7 +151,7 @@ UndoEndsOne = (P : Program) (r : Result) (p : Resolvent) (cases : List Case) (ru
     IsReached P (record { mode = Back r; cases = Handle Undo p ∷ cases; run = run }) → IsUndone (deeper cases 0) r →
     length (turn P (record { mode = Back r; cases = Handle Undo p ∷ cases; run = run })).run.local.own.levels ≡ ends p.goals
 
--- main is done, or has failed or thrown a ball
+-- its goals are done, or have failed or thrown a ball
 abbrev pub IsDone : Result → Type 0
 IsDone Stop = Unit {0}
 IsDone Fail = Unit {0}

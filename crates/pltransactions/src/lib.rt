@@ -6,7 +6,7 @@
 
 ghost use Rattle.pltransactions.specs.Laws.{SearchByTurns, TakesWhatItAsks, WaitsForWhatItAsks, OpensWithView, ClosesAtItsEnd, OpenAsksNoClauses, OpenAnswersStay, OuterEndPublishes, InnerEndAsksNothing, OpenHaveEnds, UndoEndsOne, NothingLeftOpen};
 
-/// The turns of main's machine come to the end that the search has.
+/// The turns of a search's machine come to the end that the search has.
 #[tactic(auto, using(crate::proofs::Transactions::laws))]
 pub fn search_by_turns()
     ensures { SearchByTurns }
@@ -49,7 +49,7 @@ pub fn open_have_ends()
     ensures undo { UndoEndsOne }
 {}
 
-/// Where main is done, fails, or throws a ball that nothing catches, nothing is left open.
+/// Where a search is done, fails, or throws a ball that nothing catches, nothing is left open.
 #[tactic(auto, using(crate::proofs::Transactions::laws))]
 pub fn nothing_left_open()
     ensures { NothingLeftOpen }

@@ -1,7 +1,7 @@
 use Rattle.std.proofs.Common.{◌≡◌, ◌≤◌, List, length, ap, sym, subst, ◌∙◌, arith}
 use Rattle.plevent.specs.Alive.{Stamped, before}
 use Rattle.plevent.specs.Reading.{reading}
-use Rattle.plsearch.specs.Search.{search_of}
+use Rattle.plsearch.specs.Starts.{searches}
 use Rattle.plstore.specs.declared.query.Query.{Query}
 use Rattle.plstore.specs.Looking.{found}
 use Rattle.plsolver.specs.Fetching.{IsFoundFor}
@@ -24,7 +24,7 @@ pub fetched-requires-clause-within : goal.fetched-requires-clause-within
 fetched-requires-clause-within c =
     let P = c.requires.runs.0 in
     let s = c.args.running.now.solver in
-    used-within P.first (search_of P s.limit) s.limit (λ v. rest_of P v s) s.used c.args.world.now.journal c.args.running.now.thread s.places.items c.requires.runs.1.started
+    used-within P.first (searches P s.limit c.args.world.now.journal c.args.running.now.thread) s.limit (λ v. rest_of P v s) s.used c.args.world.now.journal c.args.running.now.thread s.places.items c.requires.runs.1.started
 
 pub returns-clause-runs : goal.returns-clause-runs
 returns-clause-runs c P runs =
@@ -38,7 +38,7 @@ returns-clause-runs c P runs =
     record {
       of = c.fetched.ensures.of P runs.of;
       latest = subst (λ n. n ≤ length h) (sym c.fetched.ensures.latest) runs.latest;
-      started = started-gone P old.limit new.limit (λ v. rest_of P v old) (λ v. rest_of P v new) old.used new.used h c.args.running.now.thread old.places.items new.places.items runs.started
+      started = started-gone P.first (λ n. searches P n h c.args.running.now.thread) old.limit new.limit (λ v. rest_of P v old) (λ v. rest_of P v new) old.used new.used h c.args.running.now.thread old.places.items new.places.items runs.started
           (λ v are.
           c.in_ok-fetched.ensures.ok P runs.of v are.ordered g q c.requires.fetches.1
           (c.in_ok-found.ensures ∙ ap (λ us. found us q) (ap (λ k. before k (reading h).updates) at ∙ sym (are.as_far g within))))

@@ -2,7 +2,7 @@ use Rattle.std.proofs.Common.{◌≡◌, ◌≤◌, List, length, subst, sym}
 use Rattle.plevent.specs.declared.act.Entry.{Entry}
 use Rattle.plevent.specs.Search.{Item, View, Ask}
 use Rattle.plprogram.specs.Program.{Program}
-use Rattle.plsearch.specs.Search.{search_of}
+use Rattle.plsearch.specs.Starts.{searches}
 use Rattle.plsearch.specs.Solving.{StandsAt}
 use Rattle.plsolver.specs.declared.progress.Progress.{Progress}
 use Rattle.plsolver.specs.Says.{Says}
@@ -29,7 +29,7 @@ on-thread P h r new is a =
     record {
       of = a.of;
       latest = subst (λ n. n ≤ length h) (sym a.latest) is.latest;
-      started = started-gone P old.limit new.limit (λ v. rest_of P v old) (λ v. rest_of P v new) old.used new.used h r.thread old.places.items new.places.items is.started (λ v are. a.goes v are.ordered) a.places a.limit;
+      started = started-gone P.first (λ n. searches P n h r.thread) old.limit new.limit (λ v. rest_of P v old) (λ v. rest_of P v new) old.used new.used h r.thread old.places.items new.places.items is.started (λ v are. a.goes v are.ordered) a.places a.limit;
     }
 
 -- and stands at one
@@ -39,14 +39,14 @@ still-on P h r q is at =
     record {
       of = is.of;
       latest = is.latest;
-      runs = still-runs P.first (search_of P s.limit) s.limit (λ v. rest_of P v s) s.used s.machine.out.items h r.thread s.places.items q at is.started;
+      runs = still-runs P.first (searches P s.limit h r.thread) s.limit (λ v. rest_of P v s) s.used s.machine.out.items h r.thread s.places.items q at is.started;
     }
 
 pub advance-requires-clause-within : goal.advance-requires-clause-within
 advance-requires-clause-within c =
     let P = c.args.program.now in
     let s = c.args.running.now.solver in
-    used-within P.first (search_of P s.limit) s.limit (λ v. rest_of P v s) s.used c.args.world.now.journal c.args.running.now.thread s.places.items c.requires.runs.started
+    used-within P.first (searches P s.limit c.args.world.now.journal c.args.running.now.thread) s.limit (λ v. rest_of P v s) s.used c.args.world.now.journal c.args.running.now.thread s.places.items c.requires.runs.started
 
 pub returns-in-Slice-clause-runs : goal.returns-in-Slice-clause-runs
 returns-in-Slice-clause-runs c =

@@ -10,8 +10,8 @@ pub returns-then-call-clauses-clause-none : goal.returns-then-call-clauses-claus
 returns-then-call-clauses-clause-none c = λ db own l.
     let at = rw (← c.self.view_is) at c.requires.at in
     let o = rw (← c.self.view_is) at own in
-    let past = rw (c.clauses.ensures, c.in-Some.ensures.some.1) at c.if-call-clauses.true in
-    rw (← c.self.view_is) (past-all (inside c.self.inside) c.self.inside.depth c.self.invariant c.args.at.now.point c.args.at.now.call at db o c.in-Some.ensures.some.0 past l)
+    let past = rw (c.clauses.ensures, c.in-Some.ensures.some.1, c.code.ensures) at c.if-call-clauses.true in
+    rw (← c.self.view_is) (past-all (inside c.self.inside) c.self.inside.depth c.self.invariant c.args.at.now.point c.args.at.now.call at db o (rw c.code.ensures at c.in-Some.ensures.some.0) past l)
 
 pub first_hit-requires-clause-attempt : goal.first_hit-requires-clause-attempt
 first_hit-requires-clause-attempt c =
@@ -19,12 +19,12 @@ first_hit-requires-clause-attempt c =
     let at = rw (← c.self.view_is) at c.requires.at in
     let o = rw (← c.self.view_is) at c.requires.statics in
     let kept = run-kept c.args.at.now.point.marks.saved c.args.at.now.call.count s.saved in
-    let key_is = rw (c.heap.ensures.is, c.deref.ensures.value, kept) at c.first_key.ensures in
-    let laid = c.nodes.ensures.laid in (
+    let key_is = rw (c.heap.ensures.is, c.deref.ensures.value, kept) at c.first_key.ensures.is in
+    let laid = rw c.code-2.ensures at c.nodes.ensures.laid in (
       s.basis.code.text,
       (o.0.statics c.args.at.now.call.procedure).name,
       (o.0.statics c.args.at.now.call.procedure).clauses,
-      rw (c.deref.ensures.value, kept, c.nodes.ensures.is, c.in-Some.ensures.some.1) (the-attempt s c.self.inside.depth c.self.invariant c.args.at.now.point c.args.at.now.call at o.0 o.1 c.in-Some.ensures.some.0 c.first_key.result key_is laid),
+      rw (c.deref.ensures.value, kept, c.nodes.ensures.is, c.code-2.ensures, c.in-Some.ensures.some.1, c.code.ensures) (the-attempt s c.self.inside.depth c.self.invariant c.args.at.now.point c.args.at.now.call at o.0 o.1 (rw c.code.ensures at c.in-Some.ensures.some.0) c.first_key.result key_is laid),
     )
 
 pub invariant_of-self : goal.invariant_of-self
@@ -33,9 +33,9 @@ invariant_of-self c =
     let at = rw (← c.self.view_is) at c.requires.at in
     let o = rw (← c.self.view_is) at c.requires.statics in
     let kept = run-kept c.args.at.now.point.marks.saved c.args.at.now.call.count s.saved in
-    let key_is = rw (c.heap.ensures.is, c.deref.ensures.value, kept) at c.first_key.ensures in
-    let some = rw (c.deref.ensures.value, kept, c.nodes.ensures.is, c.in-Some.ensures.some.1) at c.in-Ok.ensures.some in
-    found-stack s c.self.inside.depth c.self.invariant c.args.at.now.point c.args.at.now.call at o.0 o.1 c.in-Some.ensures.some.0 c.first_key.result key_is c.nodes.ensures.laid c.first_hit.new.env c.first_hit.ensures.keeps c.heap-in-Ok.ensures.env c.in-Ok.hit (if_some _ _ c.in-Ok.hit (λ hit f. f s.basis.code.text (o.0.statics c.args.at.now.call.procedure).name (o.0.statics c.args.at.now.call.procedure).clauses (the-attempt s c.self.inside.depth c.self.invariant c.args.at.now.point c.args.at.now.call at o.0 o.1 c.in-Some.ensures.some.0 c.first_key.result key_is c.nodes.ensures.laid)) some) c.in-Ok.ensures.same
+    let key_is = rw (c.heap.ensures.is, c.deref.ensures.value, kept) at c.first_key.ensures.is in
+    let some = rw (c.deref.ensures.value, kept, c.nodes.ensures.is, c.code-2.ensures, c.in-Some.ensures.some.1, c.code.ensures) at c.in-Ok.ensures.some in
+    found-stack s c.self.inside.depth c.self.invariant c.args.at.now.point c.args.at.now.call at o.0 o.1 (rw c.code.ensures at c.in-Some.ensures.some.0) c.first_key.result key_is (rw c.code-2.ensures at c.nodes.ensures.laid) c.first_hit.new.env c.first_hit.ensures.keeps c.heap-in-Ok.ensures.env c.in-Ok.hit (if_some _ _ c.in-Ok.hit (λ hit f. f s.basis.code.text (o.0.statics c.args.at.now.call.procedure).name (o.0.statics c.args.at.now.call.procedure).clauses (the-attempt s c.self.inside.depth c.self.invariant c.args.at.now.point c.args.at.now.call at o.0 o.1 (rw c.code.ensures at c.in-Some.ensures.some.0) c.first_key.result key_is (rw c.code-2.ensures at c.nodes.ensures.laid))) some) c.in-Ok.ensures.same
 
 pub undo-requires : goal.undo-requires
 undo-requires c =
@@ -55,10 +55,10 @@ returns-in-Ok-clause-some c =
     let s : State = inside c.self.inside in
     let at = rw (← c.self.view_is) at c.requires.at in
     let kept = run-kept c.args.at.now.point.marks.saved c.args.at.now.call.count s.saved in
-    let key_is = rw (c.heap.ensures.is, c.deref.ensures.value, kept) at c.first_key.ensures in
-    let some = rw (c.deref.ensures.value, kept, c.nodes.ensures.is, c.in-Some.ensures.some.1) at c.in-Ok.ensures.some in
+    let key_is = rw (c.heap.ensures.is, c.deref.ensures.value, kept) at c.first_key.ensures.is in
+    let some = rw (c.deref.ensures.value, kept, c.nodes.ensures.is, c.code-2.ensures, c.in-Some.ensures.some.1, c.code.ensures) at c.in-Ok.ensures.some in
     rw (← c.self.view_is) (if_some _ _ c.in-Ok.hit (λ hit f. λ db own.
-    hits s c.self.inside.depth c.self.invariant c.args.at.now.point c.args.at.now.call at db own c.in-Some.ensures.some.0 c.first_key.result key_is c.nodes.ensures.laid c.first_hit.new.env c.first_hit.ensures.keeps c.heap-in-Ok.ensures.env hit (f s.basis.code.text (db.statics c.args.at.now.call.procedure).name (db.statics c.args.at.now.call.procedure).clauses (the-attempt s c.self.inside.depth c.self.invariant c.args.at.now.point c.args.at.now.call at db own c.in-Some.ensures.some.0 c.first_key.result key_is c.nodes.ensures.laid))) some)
+    hits s c.self.inside.depth c.self.invariant c.args.at.now.point c.args.at.now.call at db own (rw c.code.ensures at c.in-Some.ensures.some.0) c.first_key.result key_is (rw c.code-2.ensures at c.nodes.ensures.laid) c.first_hit.new.env c.first_hit.ensures.keeps c.heap-in-Ok.ensures.env hit (f s.basis.code.text (db.statics c.args.at.now.call.procedure).name (db.statics c.args.at.now.call.procedure).clauses (the-attempt s c.self.inside.depth c.self.invariant c.args.at.now.point c.args.at.now.call at db own (rw c.code.ensures at c.in-Some.ensures.some.0) c.first_key.result key_is (rw c.code-2.ensures at c.nodes.ensures.laid)))) some)
 
 pub returns-in-Ok-clause-binds : goal.returns-in-Ok-clause-binds
 returns-in-Ok-clause-binds c =
@@ -66,18 +66,18 @@ returns-in-Ok-clause-binds c =
     let at = rw (← c.self.view_is) at c.requires.at in
     let o = rw (← c.self.view_is) at c.requires.statics in
     let kept = run-kept c.args.at.now.point.marks.saved c.args.at.now.call.count s.saved in
-    let key_is = rw (c.heap.ensures.is, c.deref.ensures.value, kept) at c.first_key.ensures in
-    let some = rw (c.deref.ensures.value, kept, c.nodes.ensures.is, c.in-Some.ensures.some.1) at c.in-Ok.ensures.some in
-    rw (← c.self.view_is) (if_some _ _ c.in-Ok.hit (λ hit f. hit-binds s c.self.inside.depth c.self.invariant c.args.at.now.point c.args.at.now.call at o.0 o.1 c.in-Some.ensures.some.0 c.first_key.result key_is c.nodes.ensures.laid c.first_hit.new.env c.first_hit.ensures.keeps c.heap-in-Ok.ensures.env hit (f s.basis.code.text (o.0.statics c.args.at.now.call.procedure).name (o.0.statics c.args.at.now.call.procedure).clauses (the-attempt s c.self.inside.depth c.self.invariant c.args.at.now.point c.args.at.now.call at o.0 o.1 c.in-Some.ensures.some.0 c.first_key.result key_is c.nodes.ensures.laid))) some)
+    let key_is = rw (c.heap.ensures.is, c.deref.ensures.value, kept) at c.first_key.ensures.is in
+    let some = rw (c.deref.ensures.value, kept, c.nodes.ensures.is, c.code-2.ensures, c.in-Some.ensures.some.1, c.code.ensures) at c.in-Ok.ensures.some in
+    rw (← c.self.view_is) (if_some _ _ c.in-Ok.hit (λ hit f. hit-binds s c.self.inside.depth c.self.invariant c.args.at.now.point c.args.at.now.call at o.0 o.1 (rw c.code.ensures at c.in-Some.ensures.some.0) c.first_key.result key_is (rw c.code-2.ensures at c.nodes.ensures.laid) c.first_hit.new.env c.first_hit.ensures.keeps c.heap-in-Ok.ensures.env hit (f s.basis.code.text (o.0.statics c.args.at.now.call.procedure).name (o.0.statics c.args.at.now.call.procedure).clauses (the-attempt s c.self.inside.depth c.self.invariant c.args.at.now.point c.args.at.now.call at o.0 o.1 (rw c.code.ensures at c.in-Some.ensures.some.0) c.first_key.result key_is (rw c.code-2.ensures at c.nodes.ensures.laid)))) some)
 
 pub returns-in-Ok-clause-none : goal.returns-in-Ok-clause-none
 returns-in-Ok-clause-none c =
     let s : State = inside c.self.inside in
     let at = rw (← c.self.view_is) at c.requires.at in
     let kept = run-kept c.args.at.now.point.marks.saved c.args.at.now.call.count s.saved in
-    let key_is = rw (c.heap.ensures.is, c.deref.ensures.value, kept) at c.first_key.ensures in
-    let none = rw (c.deref.ensures.value, kept, c.nodes.ensures.is, c.in-Some.ensures.some.1) at c.in-Ok.ensures.none in
-    rw (← c.self.view_is) (if_none _ _ c.in-Ok.hit (λ f. λ db own l. nothing-left s c.self.inside.depth c.self.invariant c.args.at.now.point c.args.at.now.call at db own c.in-Some.ensures.some.0 c.first_key.result key_is c.nodes.ensures.laid c.first_hit.new.env c.first_hit.ensures.keeps c.heap-in-Ok.ensures.env (f s.basis.code.text (db.statics c.args.at.now.call.procedure).name (db.statics c.args.at.now.call.procedure).clauses (the-attempt s c.self.inside.depth c.self.invariant c.args.at.now.point c.args.at.now.call at db own c.in-Some.ensures.some.0 c.first_key.result key_is c.nodes.ensures.laid)) l) none)
+    let key_is = rw (c.heap.ensures.is, c.deref.ensures.value, kept) at c.first_key.ensures.is in
+    let none = rw (c.deref.ensures.value, kept, c.nodes.ensures.is, c.code-2.ensures, c.in-Some.ensures.some.1, c.code.ensures) at c.in-Ok.ensures.none in
+    rw (← c.self.view_is) (if_none _ _ c.in-Ok.hit (λ f. λ db own l. nothing-left s c.self.inside.depth c.self.invariant c.args.at.now.point c.args.at.now.call at db own (rw c.code.ensures at c.in-Some.ensures.some.0) c.first_key.result key_is (rw c.code-2.ensures at c.nodes.ensures.laid) c.first_hit.new.env c.first_hit.ensures.keeps c.heap-in-Ok.ensures.env (f s.basis.code.text (db.statics c.args.at.now.call.procedure).name (db.statics c.args.at.now.call.procedure).clauses (the-attempt s c.self.inside.depth c.self.invariant c.args.at.now.point c.args.at.now.call at db own (rw c.code.ensures at c.in-Some.ensures.some.0) c.first_key.result key_is (rw c.code-2.ensures at c.nodes.ensures.laid))) l) none)
 
 pub returns-in-Ok-clause-cases : goal.returns-in-Ok-clause-cases
 returns-in-Ok-clause-cases c = λ db.

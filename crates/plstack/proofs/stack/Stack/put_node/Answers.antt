@@ -8,25 +8,25 @@ use Rattle.plstack.proofs.Arguments.{laid-now, one-within, one-whole, one-covers
 use Rattle.plstack.proofs.stack.Stack.put_node.Goals as goal
 
 pub put_node-put-requires-clause-laid : goal.put_node-put-requires-clause-laid
-put_node-put-requires-clause-laid c = laid-now (inside c.self.inside) c.self.invariant.0 c.nodes.ensures.laid c.nodes.result.now c.nodes.ensures.is
+put_node-put-requires-clause-laid c = laid-now (inside c.self.inside) c.self.invariant.0 (rw c.code.ensures at c.nodes.ensures.laid) c.nodes.result.now (rw c.code.ensures at c.nodes.ensures.is)
 
 pub put_node-put-requires-clause-packed : goal.put_node-put-requires-clause-packed
-put_node-put-requires-clause-packed c = (laid-now (inside c.self.inside) c.self.invariant.0 c.nodes.ensures.laid c.nodes.result.now c.nodes.ensures.is).packed
+put_node-put-requires-clause-packed c = (laid-now (inside c.self.inside) c.self.invariant.0 (rw c.code.ensures at c.nodes.ensures.laid) c.nodes.result.now (rw c.code.ensures at c.nodes.ensures.is)).packed
 
 pub put_node-put-requires-clause-within : goal.put_node-put-requires-clause-within
 put_node-put-requires-clause-within c =
     let is_one = rw (← c.self.view_is) at c.requires in
-    one-within (inside c.self.inside) c.self.invariant.0 c.nodes.ensures.laid c.nodes.result.now c.nodes.ensures.is c.args.run c.args.node is_one.0 is_one.1
+    one-within (inside c.self.inside) c.self.invariant.0 (rw c.code.ensures at c.nodes.ensures.laid) c.nodes.result.now (rw c.code.ensures at c.nodes.ensures.is) c.args.run c.args.node is_one.0 is_one.1
 
 pub put_node-put-requires-clause-whole : goal.put_node-put-requires-clause-whole
 put_node-put-requires-clause-whole c =
     let is_one = rw (← c.self.view_is) at c.requires in
-    one-whole (inside c.self.inside) c.self.invariant.0 c.nodes.ensures.laid c.nodes.result.now c.nodes.ensures.is c.args.run c.args.node is_one.0 is_one.1
+    one-whole (inside c.self.inside) c.self.invariant.0 (rw c.code.ensures at c.nodes.ensures.laid) c.nodes.result.now (rw c.code.ensures at c.nodes.ensures.is) c.args.run c.args.node is_one.0 is_one.1
 
 pub put_node-put-requires-clause-covers : goal.put_node-put-requires-clause-covers
 put_node-put-requires-clause-covers c =
     let is_one = rw (← c.self.view_is) at c.requires in
-    one-covers (inside c.self.inside) c.self.invariant.0 c.nodes.ensures.laid c.nodes.result.now c.nodes.ensures.is c.args.run c.args.node is_one.0 is_one.1
+    one-covers (inside c.self.inside) c.self.invariant.0 (rw c.code.ensures at c.nodes.ensures.laid) c.nodes.result.now (rw c.code.ensures at c.nodes.ensures.is) c.args.run c.args.node is_one.0 is_one.1
 
 pub invariant_of-self : goal.invariant_of-self
 invariant_of-self c =
@@ -42,5 +42,5 @@ pub returns-clause-is : goal.returns-clause-is
 returns-clause-is c = rw (← c.self.view_is) (
     let s = inside c.self.inside in
     if_ok _ _ c.put_node-put.result
-    (λ v puts t is_one. puts.is ∙ ap (bind (over s.env c.args.run.base)) (one-is s c.self.invariant.0 c.nodes.ensures.laid c.nodes.result.now c.nodes.ensures.is c.args.run c.args.node t is_one))
+    (λ v puts t is_one. puts.is ∙ ap (bind (over s.env c.args.run.base)) (one-is s c.self.invariant.0 (rw c.code.ensures at c.nodes.ensures.laid) c.nodes.result.now (rw c.code.ensures at c.nodes.ensures.is) c.args.run c.args.node t is_one))
     c.put_node-put.ensures.ok)
